@@ -460,8 +460,8 @@ uint32_t polydb_site_read(polydb_site *site, const uint8_t *name, size_t length,
  * site is answered that asks for the outcome; else that one gets no answer. A host that has kept such a number asks after a crash (polydb_site_submit_tagged). Nothing changes.
  *
  * It is told only once all is written that the site has asked for: else a crash might undo it. POLYDB_COMMITTED and POLYDB_NOT_COMMITTED are final, as long as the configuration
- * stays; and where it has grown, the site never tells POLYDB_NOT_COMMITTED of what it has told to be POLYDB_COMMITTED. A transaction that is POLYDB_AT_WORK may still commit or
- * not. Of a number of a passed epoch that was never given POLYDB_NOT_COMMITTED is told.
+ * stays; and POLYDB_COMMITTED also where it has grown. A transaction that is POLYDB_AT_WORK may still commit or not. Of a number of a passed epoch that was never given
+ * POLYDB_NOT_COMMITTED is told.
  *
  *   POLYDB_DONE        `*outcome` is POLYDB_COMMITTED, POLYDB_NOT_COMMITTED or POLYDB_AT_WORK; with other statuses it is 0
  *   POLYDB_CLOSED      the handle is closed

@@ -11,19 +11,17 @@ use Rattle.pv_embed.specs.Opening.{HasOpenedOn}
 use Rattle.pv_format.specs.Contents.{SpellRecords, greatest_epoch}
 use Rattle.pv_format.specs.Journal.{IsJournal, end_of}
 use Rattle.pv_format.specs.Message.{lock}
-use Rattle.pv_format.specs.Record.{Record, epoch_begun}
+use Rattle.pv_format.specs.Record.{Record}
 use Rattle.pv_format.specs.RecordSpelling.{IsReadAs}
 use Rattle.pv_host.specs.HostLaws.{host_model}
 use Rattle.pv_host.specs.HostLog.{HostState, contents_of}
+use Rattle.pv_law_hosted.proofs.AloneLemmas.{opened-after}
 use Rattle.pv_law_hosted.proofs.CallLemmas.{give-happens, going-happens, opening-happens, some-same, write-happens}
 use Rattle.pv_law_hosted.proofs.WorkedLemmas.{found-journal, one-epoch, spelled-epoch, stands}
 use Rattle.pv_law_hosted.specs.Deployment.{Deployment, station_at}
 use Rattle.pv_law_hosted.specs.DeploymentEvents.{Happens, Stands, request, takes}
 use Rattle.pv_law_hosted.specs.Mirrored.{IsMirrored}
 use Rattle.pv_law_hosted.specs.Worked.{asked_by, asked_log, asking, begun, begun_records, catalog, config, first_epoch, found_file, killed, number, numbered, numbering, opened_again, program, requested, requests, sent, stored, stored_log, wants, writing}
-use Rattle.pv_law_step.proofs.StartLemmas.{start-case}
-use Rattle.pv_law_step.specs.StartCases as start_cases
-use Rattle.pv_law_step.specs.StartCases.{StartCase}
 use Rattle.pv_model.specs.Check.{names_item}
 use Rattle.pv_model.specs.Events.{Event}
 use Rattle.pv_model.specs.Plan.{plan_of}
@@ -31,7 +29,7 @@ use Rattle.pv_protocol.specs.Lines.{Line}
 use Rattle.pv_protocol.specs.Lock.{on_submit}
 use Rattle.pv_protocol.specs.Records.{journal_bytes}
 use Rattle.pv_protocol.specs.Run.{printed}
-use Rattle.pv_protocol.specs.Start.{Started, just_started, starts}
+use Rattle.pv_protocol.specs.Start.{just_started}
 use Rattle.pv_protocol.specs.State as State
 use Rattle.pv_protocol.specs.State.{Note, Running, Setup, Step, began, submit}
 use Rattle.pv_protocol.specs.Step.{records_after, step_on}
@@ -145,12 +143,6 @@ pub opens-again : (site : HostedState) → HasOpenedOn config 0 found_file site 
 opens-again site opened stands = opening-happens config catalog killed 0 site (omega arith) refl stands opened
 
 -- ## The next epoch
-epoch-after : (setup : Setup) (surplus : ℕ) (records : List Record) (started : Started) → StartCase setup surplus records started → (running : Running) (epoch : ℕ)
-    → started ≡ starts running (epoch_begun epoch) → epoch ≡ greatest_epoch records + 1
-epoch-after setup surplus records _ (start_cases.no_epoch_left none) running epoch is = absurd cc
-epoch-after setup surplus records _ (start_cases.no_room left full) running epoch is = absurd cc
-epoch-after setup surplus records _ (start_cases.begins left room) running epoch is = let same : greatest_epoch records + 1 ≡ epoch = cc in sym same
-
 module _ (one_record : (entry other : Record) (bytes : List ℕ) → IsReadAs entry bytes → IsReadAs other bytes → entry ≡ other)
     (one_journal : (bytes : List ℕ) (contents others : Contents) → IsJournal contents bytes → IsJournal others bytes → contents ≡ others) where
   pub second-epoch : (site : HostedState) → HasOpenedOn config 0 found_file site → site.site.epoch ≡ 2
@@ -161,7 +153,7 @@ module _ (one_record : (entry other : Record) (bytes : List ℕ) → IsReadAs en
       o.opened.read (contents_of o.log) refl ∙ all ∙ ap (λ (l : Contents). l ++ ([] ++ [])) stored in
       let records : o.opened.records ≡ begun_records = one-epoch one_record one_journal o.opened.records (subst (SpellRecords o.opened.records) read o.opened.spelled) in
       ap (λ (s : SiteState HostState). s.epoch) o.opened.site
-      ∙ epoch-after _ _ o.opened.records _ (start-case _ _ o.opened.records) o.opened.running o.opened.epoch o.opened.starts
+      ∙ (opened-after config 0 found_file site o).recorded
       ∙ ap (λ (l : List Record). greatest_epoch l + 1) records
 
 -- ## What the law says of it

@@ -233,15 +233,19 @@ pub fn hosted_requests_end_once()
 
 /// What a site has told to have committed stays so, whatever becomes of the site then: calls, crashes and openings, each under whatever configuration. So it does as a configuration
 /// grows, where no run goes on. It is a law of one site alone, since the records on which it tells so are in its file, and a file is only added to (`goes_on`, from a mirrored deployment
-/// on, `mirrored`): each later site of that number has a record that says so (`kept`), and tells of none of these that it never commits (`told`).
+/// on, `mirrored`): each later site of that number has a record that says so (`kept`). So where it tells of the transaction again, it tells that it has committed (`told`), and not that
+/// its number may still be given (`begun`).
 pub fn told_commits_are_kept()
     ensures mirrored { (setup : Setup) (d : Deployment) (events : List Event) (n : ℕ) → IsMirrored setup d events → n < setup.catalog.sites → HasFile (station_at d n) }
     ensures goes_on { (n : ℕ) (first last : Station) → HasFile first → GoesOn n first last → HasFile last }
     ensures kept { (n : ℕ) (first last : Station) (site new later : HostedState) (txn : TxnId) → HasFile first → first.hosted ≡ Some site →
         TellsOutcome site new txn (Ok Committed) → GoesOn n first last → last.hosted ≡ Some later → known later.site.records txn ≡ Some true }
-    ensures told { (n : ℕ) (first last : Station) (site new later again : HostedState) (txn : TxnId) → HasFile first → first.hosted ≡ Some site →
-        TellsOutcome site new txn (Ok Committed) → GoesOn n first last → last.hosted ≡ Some later → TellsOutcome later again txn (Ok NotCommitted) → ⊥ }
+    ensures told { (n : ℕ) (first last : Station) (site new later again : HostedState) (txn : TxnId) (outcome : Outcome) → HasFile first → first.hosted ≡ Some site →
+        TellsOutcome site new txn (Ok Committed) → GoesOn n first last → last.hosted ≡ Some later → TellsOutcome later again txn (Ok outcome) → outcome ≡ Committed }
+    ensures begun { (n : ℕ) (first last : Station) (site new later again : HostedState) (txn : TxnId) → HasFile first → first.hosted ≡ Some site →
+        TellsOutcome site new txn (Ok Committed) → GoesOn n first last → last.hosted ≡ Some later → TellsOutcome later again txn (Err NotBegun) → ⊥ }
 {
+    epochs_are_recorded();
     files_are_journals();
     files_hold_what_was_let_out();
     logs_tell_of_records();
