@@ -1,7 +1,7 @@
 -- When a site starts, and what it then makes of a log that was read.
 use Rattle.std.proofs.Common.{◌≡◌, inl, inr, refl, sym, subst, ap, ◌∙◌, ℕ, ◌+◌, ◌<◌, ◌≤◌, Bool, true, false, List, [], ◌∷◌, ◌++◌, Some, None, Err, arith}
 use Rattle.std.specs.Prelude.{length, nat_le, nat_lt, ◌==◌, if◌then◌else◌}
-use Rattle.std.proofs.lemmas.Bool.Decides.{nat_tests}
+use Rattle.std.proofs.lemmas.Bool.{lt-ltb, le-ltb, le-leb, lt-leb}
 use Rattle.pv_base.specs.Catalog.{Declared}
 use Rattle.pv_base.specs.declared.limits.TheConstants.{NEVER_GIVEN}
 use Rattle.pv_format.specs.Contents.{SpellRecords, greatest_epoch}
@@ -35,7 +35,7 @@ module _ (setup : Setup) (surplus : ℕ) (records : List Record) where
   -- No epoch is left.
   pub starts-not : NEVER_GIVEN ≤ greatest_epoch records + 1 → site_start setup surplus records ≡ no_epoch
   unfolding site_start
-  starts-not most = spent-by (nat_le NEVER_GIVEN (greatest_epoch records + 1)) refl (grind (arith, nat_tests, most))
+  starts-not most = spent-by (nat_le NEVER_GIVEN (greatest_epoch records + 1)) refl (le-leb NEVER_GIVEN (greatest_epoch records + 1) most)
 
   more-by : (b : Bool) → nat_le NEVER_GIVEN (greatest_epoch records + 1) ≡ b → b ≡ false
       → (if b then no_epoch else starting setup surplus records (greatest_epoch records + 1)) ≡ starting setup surplus records (greatest_epoch records + 1)
@@ -44,7 +44,7 @@ module _ (setup : Setup) (surplus : ℕ) (records : List Record) where
 
   starts-next : greatest_epoch records + 1 < NEVER_GIVEN → site_start setup surplus records ≡ starting setup surplus records (greatest_epoch records + 1)
   unfolding site_start
-  starts-next less = more-by (nat_le NEVER_GIVEN (greatest_epoch records + 1)) refl (grind (arith, nat_tests, less))
+  starts-next less = more-by (nat_le NEVER_GIVEN (greatest_epoch records + 1)) refl (lt-leb NEVER_GIVEN (greatest_epoch records + 1) less)
 
   full-by : (epoch : ℕ) (b : Bool) → b ≡ true → (if b then too_long (longer_journal surplus records + record_bytes (epoch_begun epoch)) else starts (just_started epoch) (epoch_begun epoch))
       ≡ too_long (longer_journal surplus records + record_bytes (epoch_begun epoch))
@@ -61,14 +61,16 @@ module _ (setup : Setup) (surplus : ℕ) (records : List Record) where
       → setup.catalog.journal < length → site_start setup surplus records ≡ too_long length
   starts-full less length is longer =
       starts-next less
-      ∙ (full-by (greatest_epoch records + 1) (nat_lt setup.catalog.journal (longer_journal surplus records + record_bytes (epoch_begun (greatest_epoch records + 1)))) (grind (arith, nat_tests, longer, is))
+      ∙ (full-by (greatest_epoch records + 1) (nat_lt setup.catalog.journal (longer_journal surplus records + record_bytes (epoch_begun (greatest_epoch records + 1))))
+      (lt-ltb setup.catalog.journal (longer_journal surplus records + record_bytes (epoch_begun (greatest_epoch records + 1))) (subst (λ (n : ℕ). setup.catalog.journal < n) is longer))
       ∙ ap too_long (sym is))
 
   pub starts-room : greatest_epoch records + 1 < NEVER_GIVEN → longer_journal surplus records + record_bytes (epoch_begun (greatest_epoch records + 1)) ≤ setup.catalog.journal
       → site_start setup surplus records ≡ starts (just_started (greatest_epoch records + 1)) (epoch_begun (greatest_epoch records + 1))
   starts-room less room =
       starts-next less
-      ∙ fits-by (greatest_epoch records + 1) (nat_lt setup.catalog.journal (longer_journal surplus records + record_bytes (epoch_begun (greatest_epoch records + 1)))) (grind (arith, nat_tests, room))
+      ∙ fits-by (greatest_epoch records + 1) (nat_lt setup.catalog.journal (longer_journal surplus records + record_bytes (epoch_begun (greatest_epoch records + 1))))
+      (le-ltb setup.catalog.journal (longer_journal surplus records + record_bytes (epoch_begun (greatest_epoch records + 1))) room)
 
 module _ {W : Type 0} (M : LogModel W) (old mid new : W) (me : ℕ) (catalog : Declared) (intact : M.is_intact old) (up : M.is_down old ≡ false) where
   -- The records couldn't be read.

@@ -1,8 +1,8 @@
 -- What comes of an event that changes one site and prints one line.
-use Rattle.std.proofs.Common.{◌≡◌, ℕ, ◌<◌, ◌≤◌, Bool, true, false, arith, Option, Some, None, List, [], ◌∷◌, ◌++◌, length, refl, sym, ap, subst, ◌∙◌}
+use Rattle.std.proofs.Common.{◌≡◌, ℕ, ◌<◌, ◌≤◌, Bool, true, false, Option, Some, None, List, [], ◌∷◌, ◌++◌, length, refl, sym, ap, subst, ◌∙◌}
 use Rattle.std.specs.Prelude.{get_or, Ok, nat_lt, if◌then◌else◌}
 use Rattle.std.specs.Vec.{with_item}
-use Rattle.std.proofs.lemmas.Bool.Decides.{nat_tests}
+use Rattle.std.proofs.lemmas.Bool.{lt-ltb, le-ltb}
 use Rattle.std.proofs.lemmas.List.{append-nil, map-append}
 use Rattle.pv_format.specs.Checkpoint.{greatest_number}
 use Rattle.pv_law_events.specs.Replays.{AreReplayable, CanBeReplayed}
@@ -172,13 +172,13 @@ module _ (old : World) (is : model.World) (stands : Stands old is) (n : ℕ) (wi
     -- A site that is up begins it, unless the number in force is the greatest.
     packing : (site_at is n).standing.number < greatest_number → ended (packed is n (site_at is n).running) ≡ ended (attempts is n OwnCheckpoint)
     packing some =
-        let test : nat_lt (site_at is n).standing.number greatest_number ≡ true = grind (arith, nat_tests, some) in
+        let test : nat_lt (site_at is n).standing.number greatest_number ≡ true = lt-ltb (site_at is n).standing.number greatest_number some in
         ap (λ (m : Option Running). ended (packed is n m)) memory
         ∙ ap (λ (b : Bool). ended (if b then attempts is n OwnCheckpoint else at_once (protocol.Line.spent n ∷ []) is)) test
 
     spending : greatest_number ≤ (site_at is n).standing.number → ended (packed is n (site_at is n).running) ≡ (protocol.Line.spent n ∷ [], is)
     spending most =
-        let test : nat_lt (site_at is n).standing.number greatest_number ≡ false = grind (arith, nat_tests, most) in
+        let test : nat_lt (site_at is n).standing.number greatest_number ≡ false = le-ltb (site_at is n).standing.number greatest_number most in
         ap (λ (m : Option Running). ended (packed is n m)) memory
         ∙ ap (λ (b : Bool). ended (if b then attempts is n OwnCheckpoint else at_once (protocol.Line.spent n ∷ []) is)) test
 

@@ -5,6 +5,7 @@ use Rattle.std.specs.Option.{option_map}
 use Rattle.std.proofs.lemmas.Bool.{true≢false}
 use Rattle.std.proofs.lemmas.List.{append-nil}
 use Rattle.std.proofs.lemmas.Option.{none-some}
+use Rattle.std.proofs.Math.Nat.{add-zero}
 use Rattle.pv_base.proofs.Basics.{Some_inj}
 use Rattle.pv_base.specs.Catalog.{Declared}
 use Rattle.pv_ckpt.specs.Armed.{ComesTo, Holds, HoldsUp, PacksArmed}
@@ -68,7 +69,14 @@ pub room-here : (catalog other : Declared) (n m : ℕ) (up : SiteState (CkptLog 
 room-here catalog other n m up is was stands stood room =
     let records : was.records ≡ is.records = sym stood.records ∙ stands.records in
     let same : other ≡ catalog = sym stood.catalog ∙ stands.catalog in
-    omega (arith, room, ap journal_bytes records, ap (λ (c : Declared). c.journal) same)
+    subst (λ (c : Declared). journal_bytes is.records ≤ c.journal) same (subst (λ (all : List Record). journal_bytes all ≤ other.journal) records room)
+
+-- A number that equals one below the greatest, or the greatest.
+is-below : (known is : ℕ) → known ≡ is → known < 2 ^ 64 - 1 → is < greatest_number
+is-below known is same less = subst (λ (n : ℕ). n < greatest_number) same less
+
+is-greatest : (known is : ℕ) → known ≡ is → known ≡ 2 ^ 64 - 1 → greatest_number ≤ is
+is-greatest known is same most = omega (arith, same, most)
 
 -- A checkpoint makes some calls.
 some-calls : (other_open : Bool) → (more : ℕ) × (checkpoint.calls_of other_open ≡ suc more)
@@ -103,7 +111,8 @@ module _ (catalog : Declared) (n : ℕ) (old : SiteState (CkptLog MemState)) (is
   within-limit : journal_bytes is.records ≤ catalog.journal → old.log.length ≤ old.log.limit
   within-limit room =
       let limit : old.log.limit ≡ catalog.journal = up.ready.limit ∙ ap (λ (c : Declared). c.journal) up.catalog in
-      omega (arith, size-known catalog n old is up, limit, room)
+      subst (λ (size : ℕ). size ≤ old.log.limit) (sym (size-known catalog n old is up))
+      (subst (λ (most : ℕ). journal_bytes is.records ≤ most) (sym limit) room)
 
   runs : (running : Running) → is.running ≡ Some running → old.running ≡ Some running
   runs running at = up.running ∙ at
@@ -116,7 +125,7 @@ module _ (catalog : Declared) (n : ℕ) (old : SiteState (CkptLog MemState)) (is
     pub has-packed : {X : Type 0} (x : X) → Checkpoints mem_model {X = X} old.log new (Ok x) → IsIntact mem_model new
         → HasPacked catalog n (Up old) (Up after) is (Some running) packed.Done
     has-packed x (keeps, finished, makes, number) intact =
-        (omega (arith, number, number-is), by (packs held is.standing arms old.log new true up.ready.intact holds-up (within-limit room) number makes))
+        (is-below _ _ number-is number, by (packs held is.standing arms old.log new true up.ready.intact holds-up (within-limit room) number makes))
       where
         by : PacksArmed held is.standing arms true new.disk ⊎ ((true ≡ false) × Holds held is.standing arms None new.disk)
             → IsDone catalog n (Up after) is (of_checkpoint is.standing running)
@@ -129,7 +138,7 @@ module _ (catalog : Declared) (n : ℕ) (old : SiteState (CkptLog MemState)) (is
                 let made : Contents × Standing = (held, done is.standing) in
                 let (armed, waiting, holds) = comes-through more made left new.disk is.arm
                 (subst (λ (calls : ℕ). ComesTo calls arms made left true new.disk) count comes) in
-                let calls : Attempted running ≡ suc more = (let same : checkpoint.calls_of is.standing.other_open + 0 ≡ checkpoint.calls_of is.standing.other_open = omega arith in same ∙ count) in
+                let calls : Attempted running ≡ suc more = add-zero (checkpoint.calls_of is.standing.other_open) ∙ count in
                 let spelled = subst (λ (all : List Record). AreWritten all held) (sym (append-nil is.records)) up.disk.spelled in
                 record {
                   armed = armed;
@@ -164,7 +173,7 @@ module _ (catalog : Declared) (n : ℕ) (old : SiteState (CkptLog MemState)) (is
 
     -- The number in force is the greatest.
     pub is-spent : Checkpoints mem_model {X = Unit {0}} old.log new (Err refused.Spent) → HasPacked catalog n (Up old) (Up after) is (Some running) packed.Spent
-    is-spent (up_before, same, number) = (omega (arith, number, number-is), ap (λ (log : CkptLog MemState). Up (record old { log = log })) same)
+    is-spent (up_before, same, number) = (is-greatest _ _ number-is number, ap (λ (log : CkptLog MemState). Up (record old { log = log })) same)
 
     -- What its disk holds where the checkpoint fails: a fault has fired, or all is as it was.
     record HasFired : Type 0 where
@@ -191,7 +200,7 @@ module _ (catalog : Declared) (n : ℕ) (old : SiteState (CkptLog MemState)) (is
                 let made : Contents × Standing = (held, done is.standing) in
                 let (fault, armed, near, holds) = comes-fired more made left new.disk is.arm
                 (subst (λ (calls : ℕ). ComesTo calls arms made left false new.disk) count comes) in
-                let calls : Attempted running ≡ suc more = (let same : checkpoint.calls_of is.standing.other_open + 0 ≡ checkpoint.calls_of is.standing.other_open = omega arith in same ∙ count) in
+                let calls : Attempted running ≡ suc more = add-zero (checkpoint.calls_of is.standing.other_open) ∙ count in
                 inl (record {
                   fault = fault;
                   fires = ap (λ (c : ℕ). reached c is.arm) calls ∙ (ap (λ (arm : Option Arm). reached (suc more) arm) armed ∙ fires-within more fault near);
@@ -243,7 +252,7 @@ module _ (catalog : Declared) (n : ℕ) (old : SiteState (CkptLog MemState)) (is
         → ((left : Remains) (added : Option Record) (standing : Standing) (armed : Option Arm) (fired : Option Bool) → IsUpOver left added standing armed fired (Up after)
         → HasFallen left added standing fired cell stops)
         → HasPacked catalog n (Up old) cell is (Some running) (packed.Broke stops)
-    has-broken cell stops failed fell = (omega (arith, failed.3, number-is), by (breaks-off failed))
+    has-broken cell stops failed fell = (is-below _ _ number-is failed.3, by (breaks-off failed))
       where
         by : BreaksOff → cells.IsBroken catalog n cell is (of_checkpoint is.standing running) stops
         by (inl fired) =

@@ -31,7 +31,7 @@ use Rattle.pv_protocol.specs.Tick.{on_tick}
 use Rattle.pv_protocol.specs.World.{World, site_at}
 use Rattle.pv_site.specs.Asked.{voting_at}
 use Rattle.pv_world.proofs.PlaceLemmas.{votes-all}
-use Rattle.pv_world.proofs.TakenLemmas.{participant-below, with-taken-ascend}
+use Rattle.pv_world.proofs.TakenLemmas.{none-below, participant-below, with-taken-ascend}
 use Rattle.pv_world.specs.Places.{IsPlacedRight}
 use Rattle.pv_world.specs.Taken.{Ascend, IsOrderly}
 
@@ -194,7 +194,7 @@ module _ (setup : Setup) (world : World) (n : ℕ) (running : Running) (orderly 
       (works-of point.txn point.entry (locking-found running (orderly.memories n running up) point.txn point.entry point.taken.found).0) in
       let new = heard-new here-of point.from point.values point.entry point.taken.heard in
       let ascend : Ascend 0 setup.catalog.sites entry.taken =
-      with-taken-ascend 0 setup.catalog.sites _ point.entry.taken (omega arith)
+      with-taken-ascend 0 setup.catalog.sites _ point.entry.taken (none-below point.from)
       (participant-below setup.catalog.sites point.entry.program setup.catalog.items point.from orderly.homes new.0) new.1 before in
       let found : voting_at (Some step.running) placed.txn ≡ Some votes =
       ap (λ (after : Running). voting_entry after placed.txn) point.running

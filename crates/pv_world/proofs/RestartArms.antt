@@ -1,9 +1,8 @@
 -- What the writes and syncs of a start come to on a disk, and what the definitions say of them.
-use Rattle.std.proofs.Common.{◌≡◌, ℕ, suc, ◌-◌, ◌<◌, ◌≤◌, Bool, true, false, MatchBool, Option, Some, None, refl, sym, ap, subst, ◌∙◌, arith}
+use Rattle.std.proofs.Common.{◌≡◌, ℕ, suc, ◌+◌, ◌-◌, ◌<◌, ◌≤◌, Bool, true, false, MatchBool, Option, Some, None, refl, sym, ap, subst, ◌∙◌, arith}
 use Rattle.std.specs.Prelude.{◌&&◌, nat_lt, if◌then◌else◌}
 use Rattle.std.specs.Option.{option_map}
-use Rattle.std.proofs.lemmas.Bool.{true≢false}
-use Rattle.std.proofs.lemmas.Bool.Decides.{nat_tests}
+use Rattle.std.proofs.lemmas.Bool.{true≢false, lt-ltb, le-ltb, ltb-true, ltb-false}
 use Rattle.pv_disk.specs.MemDisk.{MemState}
 use Rattle.pv_disk.specs.declared.arms.Arm as disk
 use Rattle.pv_format.specs.Checkpoint.{Standing}
@@ -23,13 +22,13 @@ later_by calls arm = record arm { call = arm.call - calls }
 -- What has not fired waits, so much nearer.
 pub waits-still : (more : ℕ) (arm : Arm) → suc more < arm.call → reached (suc more) (Some arm) ≡ waits (Some (later_by (suc more) arm))
 waits-still more arm far =
-    let test : nat_lt (suc more) arm.call ≡ true = grind (arith, nat_tests, far) in
+    let test : nat_lt (suc more) arm.call ≡ true = lt-ltb (suc more) arm.call far in
     ap (λ (b : Bool). if b then waits (Some (later_by (suc more) arm)) else fires arm) test
 
 -- What is near enough fires.
 pub fires-within : (more : ℕ) (arm : Arm) → arm.call ≤ suc more → reached (suc more) (Some arm) ≡ fires arm
 fires-within more arm near =
-    let test : nat_lt (suc more) arm.call ≡ false = grind (arith, nat_tests, near) in
+    let test : nat_lt (suc more) arm.call ≡ false = le-ltb (suc more) arm.call near in
     ap (λ (b : Bool). if b then waits (Some (later_by (suc more) arm)) else fires arm) test
 
 -- What waits was further away.
@@ -39,7 +38,7 @@ waited-far more arm armed is = by (nat_lt (suc more) arm.call) refl is
   where
     by : (b : Bool) → nat_lt (suc more) arm.call ≡ b → (if b then waits (Some (later_by (suc more) arm)) else fires arm) ≡ waits armed
         → (suc more < arm.call) × (armed ≡ Some (later_by (suc more) arm))
-    by true test same = (grind (arith, nat_tests, test), let both : Some (later_by (suc more) arm) ≡ armed = cc in sym both)
+    by true test same = (ltb-true (suc more) arm.call test, let both : Some (later_by (suc more) arm) ≡ armed = cc in sym both)
     by false test same = absurd (let wrong : ⊥ = cc in wrong)
 
 module _ (more : ℕ) (made : Contents × Standing) (left : disk.Arm → Contents × Standing) (on : MemState) where
@@ -52,7 +51,7 @@ module _ (more : ℕ) (made : Contents × Standing) (left : disk.Arm → Content
       by : (b : Bool) → nat_lt (suc more) arm.call ≡ b
           → MatchBool b ((true ≡ true) × Holds made.0 made.1 (Some (armed_as (later_by (suc more) arm))) None on) ((true ≡ false) × Holds (left (armed_as arm)).0 (left (armed_as arm)).1 None (Some arm.stops) on)
           → (armed : Option Arm) × (reached (suc more) (Some arm) ≡ waits armed) × Holds made.0 made.1 (option_map armed_as armed) None on
-      by true test (same, holds) = (Some (later_by (suc more) arm), waits-still more arm (grind (arith, nat_tests, test)), holds)
+      by true test (same, holds) = (Some (later_by (suc more) arm), waits-still more arm (ltb-true (suc more) arm.call test), holds)
       by false test (same, holds) = absurd (true≢false same)
 
   -- Where they don't, it was near enough, and the disk holds what it leaves.
@@ -65,7 +64,7 @@ module _ (more : ℕ) (made : Contents × Standing) (left : disk.Arm → Content
           → MatchBool b ((false ≡ true) × Holds made.0 made.1 (Some (armed_as (later_by (suc more) arm))) None on) ((false ≡ false) × Holds (left (armed_as arm)).0 (left (armed_as arm)).1 None (Some arm.stops) on)
           → (fault : Arm) × (Some arm ≡ Some fault) × (fault.call ≤ suc more) × Holds (left (armed_as fault)).0 (left (armed_as fault)).1 None (Some fault.stops) on
       by true test (same, holds) = absurd (true≢false (sym same))
-      by false test (same, holds) = (arm, refl, grind (arith, nat_tests, test), holds)
+      by false test (same, holds) = (arm, refl, ltb-false (suc more) arm.call test, holds)
 
 -- A start is a sync and then, if an epoch is recorded, the four calls of an append.
 
@@ -105,12 +104,16 @@ pub no-record : (b : Bool) → none_if b ≡ None
 no-record true = refl
 no-record false = refl
 
+-- What fires in the first call fires within more of them.
+near-more : (more call : ℕ) → call ≤ 1 → call ≤ more + 1
+near-more more call near = omega (arith, near)
+
 -- What fires in the sync of a start leaves no record.
 pub fires-early : (n : ℕ) (started : Started) (fault : Arm) → fault.call ≤ 1
     → (reached (calls_of (of_start n started)) (Some fault) ≡ fires fault) × (record_left (of_start n started).calls (of_start n started).appended fault ≡ None)
 fires-early n (starts running epoch) fault near = (
-  fires-within 4 fault (omega (arith, near)),
-  let test : nat_lt 3 fault.call ≡ false = grind (arith, nat_tests, near) in
+  fires-within 4 fault (near-more 4 fault.call near),
+  let test : nat_lt 3 fault.call ≡ false = le-ltb 3 fault.call (near-more 2 fault.call near) in
       ap (λ (b : Bool). if b && is_kept fault.mode then Some epoch else None) test,
 )
 fires-early n (too_long length) fault near = (fires-within 0 fault near, no-record (nat_lt 3 fault.call && is_kept fault.mode))

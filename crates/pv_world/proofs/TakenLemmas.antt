@@ -47,6 +47,10 @@ module _ (bound : ℕ) where
   participant-below program items site homes among =
       All-contains IsBelow (participants_of program items) site (sites-below program 0 items homes) (among-listed (participants_of program items) site among)
 
+-- No number is below 0.
+pub none-below : (n : ℕ) → 0 ≤ n
+none-below n = omega arith
+
 -- One more that was taken, from a site that none was taken from.
 
 neither : (a b : Bool) → (a || b) ≡ false → (a ≡ false) × (b ≡ false)
@@ -68,7 +72,7 @@ module _ (setup : Setup) (homes : All (λ item. item.site < setup.catalog.sites)
       → Ascend 0 setup.catalog.sites entry.taken
   new-ascends w v orderly n txn entry (has_begun program home fresh passed runs) = tt
   new-ascends w v orderly n txn entry (has_taken was taken works may) =
-      with-taken-ascend 0 setup.catalog.sites taken was.taken (omega arith)
+      with-taken-ascend 0 setup.catalog.sites taken was.taken (none-below taken.site)
       (participant-below setup.catalog.sites was.program setup.catalog.items taken.site homes may.participant) may.first (orderly n txn was works)
   new-ascends w v orderly n txn entry (is_placed was works may grown) = orderly n txn was works
   new-ascends w v orderly n txn entry (has_counted was from works may) = orderly n txn was works
