@@ -1,0 +1,5 @@
+pub mod Calls
+pub mod Hosted
+pub mod HostedView
+pub mod Life
+pub mod Opening
