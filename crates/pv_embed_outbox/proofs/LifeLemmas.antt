@@ -14,7 +14,6 @@ use Rattle.pv_disk_model.specs.Disk.{overlaid}
 use Rattle.pv_disk_model.specs.Size.{Contents, size_of}
 use Rattle.pv_format.specs.Journal.{IsJournal, IsNotOurs}
 use Rattle.pv_host.specs.HostFile.{IsFile, IsStored, MayLeave}
-use Rattle.pv_host.specs.HostLaws.{host_model}
 use Rattle.pv_host.specs.HostLog.{HostGoes, HostState, HostWrite, IsSameBesideRoom, asked_after, contents_of, next_write, with_asked, with_written, write_after, written_to}
 use Rattle.pv_host.specs.HostWrites.{IsOpenedOn}
 use Rattle.pv_law_outbox.proofs.StateLemmas.{after-taken, kept-after, kept-refl, kept-trans, state_of-last}
@@ -23,9 +22,9 @@ use Rattle.pv_law_outbox.specs.Runs.{IsKept}
 use Rattle.pv_law_outbox.specs.State.{Record, State, after, after_all, held, is_taken, learnt, nothing, state_of, taken}
 use Rattle.pv_outbox.specs.OutboxState.{OutboxState}
 use Rattle.pv_outbox.specs.Spelling.{SpellRecords, SpellsRecord}
-use Rattle.pv_embed_outbox.specs.Calls.{Adds, HasNoRoom, HoldsBy, LearnsBy, ReleasesBy, TakesBy}
+use Rattle.pv_embed_outbox.specs.Calls.{Adds, HoldsBy, LearnsBy, ReleasesBy, TakesBy}
 use Rattle.pv_embed_outbox.specs.Hosted.{AsksForGroup, HostedState, Stays, TakesFirst, Writes, log_length}
-use Rattle.pv_embed_outbox.specs.Life.{Act, Goes, Life, Moves, Place, Returns, asks, closed, holds, learns, opens, releases, running, stops, taken_by, taken_in, takes, tears, writes, written_into}
+use Rattle.pv_embed_outbox.specs.Life.{Act, Goes, Life, Moves, Place, asks, closed, holds, learns, opens, releases, running, stops, taken_by, taken_in, takes, tears, writes, written_into}
 use Rattle.pv_embed_outbox.specs.Opening.{HasOpenedOn}
 use Rattle.pv_embed_outbox.specs.declared.fault.HoldFault.{HoldFault}
 use Rattle.pv_embed_outbox.specs.declared.fault.HoldFault.TheVariants as holding

@@ -1,5 +1,5 @@
 -- What the calls of an outbox with a host do, by their answers.
-use Rattle.std.specs.Prelude.{◌≡◌, ℕ, ℤ, ◌<◌, ◌≤◌, nat_le, Bool, true, List, [], ◌∷◌, ◌++◌, Option, Some, Result, Ok, Err, if◌then◌else◌}
+use Rattle.std.specs.Prelude.{◌≡◌, ℕ, ℤ, ◌<◌, ◌≤◌, nat_le, Bool, true, List, [], ◌∷◌, ◌++◌, Some, Result, Ok, Err, if◌then◌else◌}
 use Rattle.pv_base.specs.Polyvalue.{Case}
 use Rattle.pv_base.specs.declared.limits.TheConstants.{MAX_SITES}
 use Rattle.pv_base.specs.declared.txn.TxnId.{TxnId}
@@ -17,7 +17,6 @@ use Rattle.pv_embed_outbox.specs.declared.fault.LearnFault.TheVariants as learni
 use Rattle.pv_embed_outbox.specs.declared.fault.ReleaseFault.{ReleaseFault}
 use Rattle.pv_embed_outbox.specs.declared.fault.ReleaseFault.TheVariants as releasing
 use Rattle.pv_embed_outbox.specs.declared.fault.TakeFault.{TakeFault}
-use Rattle.pv_embed_outbox.specs.declared.release.Release.{Release}
 
 -- The record may be written and was added to the log: the host is to write it. The outbox knows what it says.
 pub record Adds (old new : HostedState) (entry : Record) : Type 0 where

@@ -1,5 +1,5 @@
 -- The life of outboxes with hosts, one after another on one file: calls, writes of the host, kills at any moment, and openings on what is left.
-use Rattle.std.specs.Prelude.{◌≡◌, ℕ, Bool, List, [], ◌∷◌, ◌++◌, Option, Some, None, Result, Ok, Err, ⊤}
+use Rattle.std.specs.Prelude.{◌≡◌, ℕ, Bool, List, [], ◌∷◌, ◌++◌, Option, Some, None, Result, Ok, ⊤}
 use Rattle.pv_base.specs.declared.txn.TxnId.{TxnId}
 use Rattle.pv_disk_model.specs.Disk.{overlaid}
 use Rattle.pv_host.specs.HostFile.{MayLeave}
