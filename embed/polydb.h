@@ -1,11 +1,12 @@
 /*
  * polydb in a C program: a database of up to 16 sites, kept in memory, that a host drives step by step.
  *
- * Three ways to use it, from the least to the most:
+ * Three ways to use it, from the least to the most, and an outbox beside them:
  *
  *   polydb_run       a whole schedule in, the text that `polydb run` prints for it out. No state.
  *   polydb_world     all sites in one handle, driven by the lines of a schedule. What is printed is taken out.
  *   polydb_site      one site of several, each in a program of its own. The host carries its messages and writes its journal.
+ *   polydb_outbox    outputs that are held back until outcomes are known, and let out at most once. The host writes its journal.
  *
  * `embed/build` makes libpolydb.a and libpolydb.so in embed/out, for Linux on x86-64. Link with the one, or load the other:
  *
@@ -14,7 +15,7 @@
  * Nothing else is needed: the library calls malloc, realloc, free, memcpy, memmove and memset of the C library, and no other function; it opens no
  * file, starts no thread, prints nothing, and never calls the host back.
  *
- * Handles. A world and a site live behind a handle that the host keeps. All zeroes are a closed handle:
+ * Handles. A world, a site and an outbox live behind a handle that the host keeps. All zeroes are a closed handle:
  *
  *     polydb_site site = {0};
  *
@@ -30,14 +31,14 @@
  *
  * What the library promises, which is proved: each call ends, and gives one of the statuses written below it, exactly for the cause that is
  * written beside it, and for the first in that list where several are so (but POLYDB_NO_MEMORY and POLYDB_BROKEN_OFF, which may come wherever they are
- * listed); with a status other than POLYDB_DONE the world or site is as it was before the call, but for room that was made, unless said otherwise; no call
- * reads or writes outside what it is given; and no pointer is kept after a call: catalog, line, configuration, journal, program, message, name and `out` may then be freed.
+ * listed); with a status other than POLYDB_DONE the world, site or outbox is as it was before the call, but for room that was made, unless said otherwise; no call
+ * reads or writes outside what it is given; and no pointer is kept after a call: catalog, line, configuration, journal, program, message, name, cases and `out` may then be freed.
  * What else is proved stands in docs/EMBEDDING.md.
  *
  * Room. Where a call writes bytes to `out`, they are `room` bytes at most, and too small a room loses nothing: POLYDB_TOO_SMALL says in `*written` how many
  * bytes there are, nothing is written, and the same bytes come again. But polydb_world_take has no such status: it writes a part, and the next call goes on.
  * After every call `out` is as it was beyond the bytes that were written. `*written` is 0 but with POLYDB_DONE and POLYDB_TOO_SMALL, and but for polydb_run,
- * which has a text with other statuses too; `*place`, `*to`, `*tag` and `*at` are 0 but with POLYDB_DONE.
+ * which has a text with other statuses too; `*place`, `*to`, `*tag`, `*at` and `*output` are 0 but with POLYDB_DONE.
  */
 #ifndef POLYDB_H
 #define POLYDB_H
@@ -68,6 +69,8 @@ uint32_t polydb_version(void);
 /* Bytes of a program's text, and items that it names. */
 #define POLYDB_MAX_PROGRAM 1000u
 #define POLYDB_MAX_PROGRAM_ITEMS 16u
+/* Bytes of the condition of an output. */
+#define POLYDB_MAX_CASES 1000u
 /* Bytes of a configuration, of a schedule, and of a catalog and a line together. */
 #define POLYDB_MAX_INPUT 16777216u
 /* Bytes of a message: none has more. By its format it has at most 1,245,141, 16 values of 4,096 leaves and 4,095 tests each; the number is that of earlier versions. */
@@ -108,7 +111,7 @@ uint32_t polydb_version(void);
 
 /* The lines have an event, and are to declare only. */
 #define POLYDB_HAS_EVENTS 20u
-/* There is no site of this number. */
+/* There is no site of this number. No transaction has such a site, either. */
 #define POLYDB_NO_SITE 21u
 /* The bytes are no journal. */
 #define POLYDB_NOT_OURS 22u
@@ -119,7 +122,8 @@ uint32_t polydb_version(void);
 #define POLYDB_TOO_MANY_OUTCOMES 24u
 /* No epoch is left: the records of 4,294,967,294 openings were written into the file. */
 #define POLYDB_EPOCHS_SPENT 25u
-/* The journal has no room for the record of the new epoch: its limit is the one of the configuration's line `journal`. A higher one opens it (polydb_site_open). */
+/* The journal has no room for one more record. Of a site: for that of the new epoch; the limit is the one of the configuration's line `journal`, and a higher one opens it
+ * (polydb_site_open). Of an outbox: the limit is POLYDB_MAX_JOURNAL. */
 #define POLYDB_FULL 26u
 
 /* Of sites. */
@@ -138,7 +142,7 @@ uint32_t polydb_version(void);
 #define POLYDB_NOT_NEXT 32u
 /* No item has this name. */
 #define POLYDB_UNKNOWN_NAME 33u
-/* Records wait to be written into the file. What the item shows, or what became of the transaction, may rest on them, and a crash may undo it. */
+/* Records wait to be written into the file. What the item shows, what became of the transaction, or what an outbox would tell may rest on them, and a crash may undo it. */
 #define POLYDB_UNWRITTEN 37u
 /* The configuration isn't one that the other has grown to. */
 #define POLYDB_NOT_GROWN 38u
@@ -151,6 +155,15 @@ uint32_t polydb_version(void);
 #define POLYDB_BROKEN_OFF 35u
 /* The world takes no more steps: an earlier one gave POLYDB_SENT_LIMIT or POLYDB_BROKEN_OFF. */
 #define POLYDB_ENDED 36u
+
+/* Of outboxes. */
+
+/* The output was held before. */
+#define POLYDB_AGAIN 39u
+/* An outcome of the transaction was learnt before. */
+#define POLYDB_KNOWN 40u
+/* The text is no condition. */
+#define POLYDB_BAD_CASES 41u
 
 /*
  * What a status says, for a person: `the text is no program`. There is neither a line feed nor a zero behind it.
@@ -501,6 +514,146 @@ uint32_t polydb_site_item(polydb_site *site, uint64_t number, uint8_t *out, size
 
 /* Closes the handle and frees all that it holds. A closed handle stays closed. The host's file goes on: open the site again on it. */
 void polydb_site_close(polydb_site *site);
+
+/* ---- an outbox: outputs that are held back, and let out at most once, for a host that writes their journal ---- */
+
+/*
+ * An output is a number that the host chose for an effect on the outside: a payment, a letter, a call of another service. It is held back under a condition on
+ * outcomes of transactions, which is 0 or 1 at each assignment. It is *ready* once the condition is certain to be 1, whatever comes of transactions whose outcome wasn't learnt. A
+ * ready output is released, the one first that was held first, and then taken, once; and its effect done. docs/OUTBOXES.md says what at most once leaves to the host.
+ *
+ * A host does this, in any order and as often as it likes:
+ *
+ *     open the outbox on what its file holds
+ *     for ever:
+ *         polydb_outbox_hold what is to be held back, polydb_outbox_learn the outcomes that it heard of
+ *         while polydb_outbox_release gives POLYDB_DONE: nothing more
+ *         while polydb_outbox_take_journal gives a place and bytes:
+ *             write the bytes at the place (pwrite), and sync the file (fdatasync)
+ *             polydb_outbox_journal_synced
+ *         while polydb_outbox_take gives an output: do its effect
+ *
+ * What is proved of it: polydb_outbox_take gives an output only once the host has said that the file has the record of its release. So over every list of calls, kills and
+ * openings, where the host writes what it is told and a kill leaves any bytes in the range that is being written, no output is taken twice, and each was ready when it was released.
+ * What was held or learnt is there for good once the host has said that all is written that polydb_outbox_take_journal gave after it; before that a kill may undo it, and then it
+ * is as if it had never been asked. At each moment the file is a journal of the first records of the outbox: of as many as the host has said to be written, or of these
+ * and all of the group that it was given to write.
+ *
+ * An output that was released, and whose record is in the file, but that wasn't taken when the handle was closed or the process was killed, is never taken: its effect isn't done.
+ *
+ * What the host owes besides is what it owes of a site's file: that is synced before its bytes are read for the opening; a new one is POLYDB_EMPTY_JOURNAL, synced with its entry in
+ * the folder before any call but the opening; it goes on to hold what was written and synced; where a write or a sync fails, polydb_outbox_journal_synced isn't called, and the same
+ * bytes are written again; one outbox is open on it at a time; and no write lands late. A file is of an outbox or of a site, not of both: an outbox finds a site's records to be
+ * none, and so does a site with an outbox's.
+ */
+
+/* Closed if all zeroes. Not to be copied. The fields are the library's. */
+typedef struct {
+    bool live;
+    void *at;
+} polydb_outbox;
+
+/*
+ * Opens a closed handle with an outbox that goes on from its journal: what the host's file holds, as it was found, POLYDB_EMPTY_JOURNAL for a new one. What stands there beyond
+ * the journal's end, its closed gate, doesn't matter. The opening takes time and memory in proportion to the bytes, and nothing is to be written by it. In `*fault` it is said where
+ * it is refused: `number` is the byte, from 0, at which it shows that the bytes are no journal; or the record, from 0, that is the first that is none of an outbox.
+ *
+ *   POLYDB_DONE        the outbox is open. It says what the journal's records say
+ *   POLYDB_IN_USE      the handle was open
+ *   POLYDB_NOT_OURS    the bytes are no journal
+ *   POLYDB_BAD_RECORD  the journal holds what is no record of an outbox
+ *   POLYDB_NO_MEMORY   there was no memory
+ */
+uint32_t polydb_outbox_open(polydb_outbox *outbox, const uint8_t *journal, size_t journal_length, polydb_fault *fault);
+
+/*
+ * Holds an output back under a condition: a value, 0 or 1, or cases as a report has them, as `0 if -0.1.0 ; 1 if +0.1.0`. They are canonical, as polydb writes them, in one line of
+ * POLYDB_MAX_CASES bytes at most, name at most 12 transactions, and each has a site below 16. Of several that hold one output the first counts.
+ *
+ *   POLYDB_DONE       the outbox has it, and its record is to be written: it is held for good once that is in the file
+ *   POLYDB_CLOSED     the handle is closed
+ *   POLYDB_BAD_CASES  the text is no such condition
+ *   POLYDB_UNWRITTEN  the output was held before, and records wait to be written: a crash may undo that
+ *   POLYDB_AGAIN      the output was held before, for good, whether it was released since or not
+ *   POLYDB_FULL       the journal has no room for the record
+ *   POLYDB_NO_MEMORY  there was no memory
+ */
+uint32_t polydb_outbox_hold(polydb_outbox *outbox, uint32_t output, const uint8_t *cases, size_t length);
+
+/*
+ * Learns what became of a transaction, by the three numbers of its `txn` report, as 0, 1 and 0 of `txn 0.1.0`: whether it commits. The outbox believes it. The first outcome
+ * counts; which one that is `*outcome` says with POLYDB_KNOWN, as POLYDB_COMMITTED or POLYDB_NOT_COMMITTED, and with all other statuses it is 0.
+ *
+ *   POLYDB_DONE       the outbox has it, and its record is to be written: it is learnt for good once that is in the file
+ *   POLYDB_CLOSED     the handle is closed
+ *   POLYDB_NO_SITE    no transaction has this coordinator: it isn't below 16
+ *   POLYDB_UNWRITTEN  an outcome was learnt before, and records wait to be written: a crash may undo that
+ *   POLYDB_KNOWN      an outcome was learnt before, for good
+ *   POLYDB_FULL       the journal has no room for the record
+ *   POLYDB_NO_MEMORY  there was no memory
+ */
+uint32_t polydb_outbox_learn(polydb_outbox *outbox, uint8_t coordinator, uint32_t epoch, uint32_t number, bool commits, uint32_t *outcome);
+
+/*
+ * Releases the ready output that was held first: the record of its release is to be written, and once that is in the file polydb_outbox_take gives the output. Several may be
+ * released before they are taken, so that one group of records has all of them.
+ *
+ *   POLYDB_DONE       one was released
+ *   POLYDB_CLOSED     the handle is closed
+ *   POLYDB_NOTHING    no output is ready
+ *   POLYDB_FULL       the journal has no room for the record
+ *   POLYDB_NO_MEMORY  there was no memory
+ */
+uint32_t polydb_outbox_release(polydb_outbox *outbox);
+
+/*
+ * Takes the next output that was released since the outbox was opened, in the order in which they were: once the record of its release is in the file, so that no crash lets it
+ * out a second time. Its effect may be done now, and never before.
+ *
+ *   POLYDB_DONE       it is in `*output`
+ *   POLYDB_CLOSED     the handle is closed
+ *   POLYDB_NOTHING    all that were released are taken
+ *   POLYDB_UNWRITTEN  one was released, and its record isn't in the file: polydb_outbox_take_journal has something to write
+ */
+uint32_t polydb_outbox_take(polydb_outbox *outbox, uint32_t *output);
+
+/*
+ * What the host is to write next into its file: `*written` bytes at `*place` (from 0), which may lie within the file, as polydb_site_take_journal gives them of a site. They are a
+ * group of the records that wait, as many as have room and one at least; and once polydb_outbox_journal_synced is called for them, one byte more, which makes all of them count.
+ *
+ *   POLYDB_DONE        the bytes are in `out`
+ *   POLYDB_CLOSED      the handle is closed
+ *   POLYDB_NOTHING     all is written
+ *   POLYDB_TOO_SMALL   there is less room than `*written` bytes, which the first record that waits has, or the group; the group is what it was
+ */
+uint32_t polydb_outbox_take_journal(polydb_outbox *outbox, uint8_t *out, size_t room, size_t *written, uint64_t *place);
+
+/*
+ * The host has written these bytes at this place, as many as polydb_outbox_take_journal gave last, and synced the file. To say so before it is true breaks what is proved.
+ *
+ *   POLYDB_DONE        the outbox knows; the next write, if there is one, is now to be taken
+ *   POLYDB_CLOSED      the handle is closed
+ *   POLYDB_NOT_NEXT    so many bytes at this place aren't what is to be written next, or their bytes weren't given since the outbox was opened
+ */
+uint32_t polydb_outbox_journal_synced(polydb_outbox *outbox, uint64_t place, size_t written);
+
+/* How far an outbox is. */
+typedef struct {
+    uint64_t stored; /* bytes of the journal that are in the file, by what the host has said: up to its closed gate, and with it */
+    uint64_t asked;  /* as many as there are once all is written that the outbox has asked for */
+    uint64_t limit;  /* as many as there may be */
+} polydb_outbox_journal;
+
+/*
+ * How far the outbox is. What was held, learnt or released when `asked` was some number is in the file once `stored` is no less. Nothing changes.
+ *
+ *   POLYDB_DONE        it is in `*journal`
+ *   POLYDB_CLOSED      the handle is closed; `*journal` has zeroes
+ */
+uint32_t polydb_outbox_info(polydb_outbox *outbox, polydb_outbox_journal *journal);
+
+/* Closes the handle and frees all that it holds. A closed handle stays closed. The host's file goes on: open the outbox again on it. */
+void polydb_outbox_close(polydb_outbox *outbox);
 
 /* ---- a whole run, without a handle ---- */
 

@@ -311,7 +311,7 @@ static void status_texts(void) {
         CHECK(memchr(out, '.', needed) == NULL);
         texts++;
     }
-    CHECK(texts == 28);
+    CHECK(texts == 31);
     CHECK(polydb_status_text(UINT32_MAX, (uint8_t[1]){0}, 1, &(size_t){0}) == POLYDB_NOTHING);
 }
 

@@ -7,6 +7,8 @@ mod given_numbers;
 mod given_text;
 mod growth;
 mod numbers;
+mod outbox;
+mod outbox_numbers;
 mod placing;
 mod run;
 mod site;

@@ -45,7 +45,7 @@ pub const TOO_MANY_OUTCOMES: u32 = 24;
 /// No epoch is left.
 pub const EPOCHS_SPENT: u32 = 25;
 
-/// The journal has no room for the record of the new epoch.
+/// The journal has no room for one more record.
 pub const FULL: u32 = 26;
 
 /// The text is no program.
@@ -83,3 +83,12 @@ pub const UNWRITTEN: u32 = 37;
 
 /// The later configuration isn't one that the one before has grown to.
 pub const NOT_GROWN: u32 = 38;
+
+/// The output was held before.
+pub const AGAIN: u32 = 39;
+
+/// An outcome of the transaction was learnt before.
+pub const KNOWN: u32 = 40;
+
+/// The text is no condition.
+pub const BAD_CASES: u32 = 41;

@@ -5,14 +5,14 @@ ghost use Rattle.pv_c.specs.StatusTexts.{GivesText, told_text};
 
 use crate::run::put;
 use crate::status::{
-    BAD_MESSAGE, BAD_PROGRAM, BAD_RECORD, BAD_TEXT, BROKEN_OFF, CLOSED, DONE, ENDED, EPOCHS_SPENT,
-    FULL, HAS_EVENTS, IN_USE, MALFORMED, NO_MEMORY, NO_SENDER, NO_SITE, NOT_GROWN, NOT_HERE,
-    NOT_NEXT, NOT_ONE_EVENT, NOT_OURS, NOTHING, SENT_LIMIT, TOO_LONG, TOO_MANY_OUTCOMES, TOO_SMALL,
-    UNKNOWN_NAME, UNWRITTEN,
+    AGAIN, BAD_CASES, BAD_MESSAGE, BAD_PROGRAM, BAD_RECORD, BAD_TEXT, BROKEN_OFF, CLOSED, DONE,
+    ENDED, EPOCHS_SPENT, FULL, HAS_EVENTS, IN_USE, KNOWN, MALFORMED, NO_MEMORY, NO_SENDER, NO_SITE,
+    NOT_GROWN, NOT_HERE, NOT_NEXT, NOT_ONE_EVENT, NOT_OURS, NOTHING, SENT_LIMIT, TOO_LONG,
+    TOO_MANY_OUTCOMES, TOO_SMALL, UNKNOWN_NAME, UNWRITTEN,
 };
 
 /// Each status, and what it says.
-pub const STATUS_TEXTS: [(u32, &[u8]); 28] = [
+pub const STATUS_TEXTS: [(u32, &[u8]); 31] = [
     (DONE, b"done"),
     (MALFORMED, b"a line is not in the grammar"),
     (TOO_LONG, b"more than 16,777,216 bytes"),
@@ -33,7 +33,7 @@ pub const STATUS_TEXTS: [(u32, &[u8]); 28] = [
     (EPOCHS_SPENT, b"no epoch is left"),
     (
         FULL,
-        b"the journal has no room for a new epoch within its limit",
+        b"the journal has no room for one more record within its limit",
     ),
     (BAD_TEXT, b"the text is no program"),
     (BAD_PROGRAM, b"the program may not run"),
@@ -53,6 +53,9 @@ pub const STATUS_TEXTS: [(u32, &[u8]); 28] = [
         NOT_GROWN,
         b"the configuration is not what the other has grown to",
     ),
+    (AGAIN, b"the output was held before"),
+    (KNOWN, b"the outcome is known"),
+    (BAD_CASES, b"the text is no condition"),
 ];
 
 /// Writes what a status says, if there is such a status and room for its text, and says how many bytes that is.

@@ -2,6 +2,8 @@ pub mod AskLemmas
 pub mod ByteLemmas
 pub mod KeepLemmas
 pub mod OpeningLemmas
+pub mod OutboxBox
+pub mod OutboxLemmas
 pub mod ReadLemmas
 pub mod SiteBox
 pub mod StepLemmas

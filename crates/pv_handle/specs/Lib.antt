@@ -5,6 +5,8 @@ pub mod ByteView
 pub mod Faults
 pub mod Given
 pub mod Opening
+pub mod Outbox
+pub mod OutboxHandle
 pub mod SiteHandle
 pub mod Slot
 pub mod Standing
