@@ -3,7 +3,7 @@
 A payer is a process of its own. It keeps its outbox in a file, and gives the orders that the outbox lets out to a bank. What happens:
 
  1. Twenty go from `till` at site 0 to `account` at site 1, and the word that this has committed is lost. Site 1 shows both values of the account, each with its condition.
- 2. Order 7, of 60, is held back until the account is sure to have so much. Order 8, of 30, which it has in any case, is held too. The payer pays order 8 alone.
+ 2. Order 7, of 55, is held back until the account is sure to have so much. Order 8, of 10, which it has in any case, is held too. The payer pays order 8 alone.
  3. Site 1 has asked, and the account has one value. The payer learns of the commit, and is killed (SIGKILL) once its file has the record that order 7 is released, before it has paid it.
  4. The next payer is given nothing by its outbox. Order 7 is due, and the bank doesn't have it: so that is the one that was let out to nobody, and it is paid now.
  5. Order 9 comes. Its payer is killed when it has paid it. The next one is given nothing, asks the bank, and leaves it at that.
@@ -108,10 +108,12 @@ class Payer:
             pass  # it was held in an earlier life, and that counts
 
     def learn(self, name, commits):
+        self.files.settle()  # so that it is told which outcome counts, if one was learnt in an earlier life
         try:
             self.outbox.learn(name, commits)
-        except (polydb.Known, polydb.Unwritten):
-            pass  # so was this
+        except polydb.Known as known:
+            if known.outcome is not (polydb.Outcome.COMMITTED if commits else polydb.Outcome.NOT_COMMITTED):
+                raise  # it has heard two: by this one an order may be due that the outbox holds back for ever
 
     def live(self, orders, outcomes):
         """Pays what is due. The orders are numbers, each with its amount and its condition; the outcomes are those that the payer has heard of, `+` or `-`."""
@@ -162,11 +164,11 @@ def condition(shown, amount):
     return " ; ".join(f"{value} if {' '.join(case.when)}" for value, case in zip(enough, cases))
 
 
-def shows(world, name):
-    """What the world shows of an item."""
+def reported(world, words):
+    """What the world's report has behind these words."""
     world.take()
     world.step("report")
-    return next(line.removeprefix(f"item {name} ") for line in world.take().decode().splitlines() if line.startswith(f"item {name} "))
+    return next(line.removeprefix(words).strip() for line in world.take().decode().splitlines() if line.startswith(words))
 
 
 def life(folder, orders, outcomes, doomed="never"):
@@ -187,22 +189,22 @@ def drive(folder):
     world = polydb.World(CATALOG)
     for line in ["submit 0 till := till - 20 ; account := account + 20", "pump 8", "lose 8", "tick 1", "tick 1", "tick 1"]:
         world.step(line)
-    shown = shows(world, "account")
+    shown = reported(world, "item account")
     print("the account in doubt:", shown)
-    orders = {7: (60, condition(shown, 60)), 8: (30, condition(shown, 30))}
+    orders = {7: (55, condition(shown, 55)), 8: (10, condition(shown, 10))}
     for number, (amount, cases) in orders.items():
         print(f"order {number} of {amount} is held back by: {cases}")
     life(folder, orders, {})
 
     for line in ["tick 1", "pump"]:
         world.step(line)
-    print("the account:", shows(world, "account"))
-    outcomes = {"0.1.0": "+"}
+    print("the account:", reported(world, "item account"))
+    outcomes = {name: "+" for name in reported(world, "committed").split()}
     life(folder, orders, outcomes, "released")
     life(folder, orders, outcomes)
 
-    orders[9] = (10, condition(shows(world, "account"), 10))
-    print("order 9 of 10 comes")
+    orders[9] = (5, condition(reported(world, "item account"), 5))
+    print("order 9 of 5 comes")
     life(folder, orders, outcomes, "paid")
     life(folder, orders, outcomes)
     print("the bank has paid the orders", *Bank(folder).paid())

@@ -9,7 +9,7 @@ use std::path::{Path, PathBuf};
 use std::process::{self, Command, Stdio};
 use std::{env, thread};
 
-use polydb::{Error as Refused, Outbox, World, EMPTY_JOURNAL};
+use polydb::{Error as Refused, Outbox, Outcome, World, EMPTY_JOURNAL};
 
 type Result<T> = std::result::Result<T, Box<dyn Error>>;
 
@@ -111,10 +111,19 @@ impl OutboxFile {
     }
 }
 
-/// What was held or learnt in an earlier life counts.
-fn at_last(answer: std::result::Result<(), Refused>) -> Result<()> {
+/// What was held in an earlier life counts.
+fn held(answer: std::result::Result<(), Refused>) -> Result<()> {
     match answer {
-        Ok(()) | Err(Refused::Again | Refused::Known(_) | Refused::Unwritten) => Ok(()),
+        Ok(()) | Err(Refused::Again | Refused::Unwritten) => Ok(()),
+        Err(error) => Err(error.into()),
+    }
+}
+
+/// What was learnt in an earlier life counts. Who has heard two outcomes doesn't go on: by the other one an order may be due that the outbox holds back for ever.
+fn learnt(answer: std::result::Result<(), Refused>, commits: bool) -> Result<()> {
+    match answer {
+        Ok(()) => Ok(()),
+        Err(Refused::Known(outcome)) if (outcome == Outcome::Committed) == commits => Ok(()),
         Err(error) => Err(error.into()),
     }
 }
@@ -140,7 +149,7 @@ fn live(folder: &Path, doomed: &str, orders: &[Order], outcomes: &[String]) -> R
 
     let mut files = OutboxFile::open(folder)?;
     for order in orders {
-        at_last(files.outbox.hold(order.number, order.cases.as_bytes()))?;
+        held(files.outbox.hold(order.number, order.cases.as_bytes()))?;
     }
     for outcome in outcomes {
         let (sign, name) = outcome.split_at(1);
@@ -149,8 +158,9 @@ fn live(folder: &Path, doomed: &str, orders: &[Order], outcomes: &[String]) -> R
         else {
             return Err(format!("no transaction: {name}").into());
         };
-        let site = site.try_into()?;
-        at_last(files.outbox.learn(site, epoch, number, sign == "+"))?;
+        let (site, commits) = (site.try_into()?, sign == "+");
+        files.settle()?; // so that it is told which outcome counts, if one was learnt in an earlier life
+        learnt(files.outbox.learn(site, epoch, number, commits), commits)?;
     }
     while files.outbox.release()? {}
     files.settle()?;
@@ -199,20 +209,20 @@ fn steps(world: &mut World, lines: &[&str]) -> Result<()> {
     Ok(())
 }
 
-/// What the world shows of the account.
-fn account(world: &mut World) -> Result<String> {
+/// What the world's report has behind these words.
+fn reported(world: &mut World, words: &str) -> Result<String> {
     world.take_into(&mut Vec::new())?;
     world.step(b"report")?;
     let mut text = Vec::new();
     world.take_into(&mut text)?;
     let text = String::from_utf8(text)?;
     let mut lines = text.lines();
-    let shown = lines.find_map(|line| line.strip_prefix("item account "));
-    Ok(shown.ok_or("no account")?.to_owned())
+    let found = lines.find_map(|line| line.strip_prefix(words));
+    Ok(found.ok_or("no such line")?.trim().to_owned())
 }
 
 /// A payer's process. One that is doomed is killed where it comes to a stop.
-fn life(folder: &Path, orders: &[Order], outcomes: &[&str], doomed: &str) -> Result<()> {
+fn life(folder: &Path, orders: &[Order], outcomes: &[String], doomed: &str) -> Result<()> {
     let words = orders
         .iter()
         .map(|order| format!("{} {} {}", order.number, order.amount, order.cases));
@@ -244,10 +254,10 @@ fn drive(folder: &Path) -> Result<()> {
     let transfer = "submit 0 till := till - 20 ; account := account + 20";
     steps(&mut world, &[transfer, "pump 8", "lose 8"])?;
     steps(&mut world, &["tick 1", "tick 1", "tick 1"])?;
-    let shown = account(&mut world)?;
+    let shown = reported(&mut world, "item account")?;
     println!("the account in doubt: {shown}");
     let mut orders = Vec::new();
-    for (number, amount) in [(7, 60), (8, 30)] {
+    for (number, amount) in [(7, 55), (8, 10)] {
         let cases = condition(&shown, amount)?;
         println!("order {number} of {amount} is held back by: {cases}");
         orders.push(Order {
@@ -259,18 +269,22 @@ fn drive(folder: &Path) -> Result<()> {
     life(folder, &orders, &[], NEVER)?;
 
     steps(&mut world, &["tick 1", "pump"])?;
-    println!("the account: {}", account(&mut world)?);
-    let outcomes = ["+0.1.0"];
+    println!("the account: {}", reported(&mut world, "item account")?);
+    let committed = reported(&mut world, "committed")?;
+    let outcomes: Vec<_> = committed
+        .split_whitespace()
+        .map(|name| format!("+{name}"))
+        .collect();
     life(folder, &orders, &outcomes, "released")?;
     life(folder, &orders, &outcomes, NEVER)?;
 
-    let cases = condition(&account(&mut world)?, 10)?;
+    let cases = condition(&reported(&mut world, "item account")?, 5)?;
     orders.push(Order {
         number: 9,
-        amount: 10,
+        amount: 5,
         cases,
     });
-    println!("order 9 of 10 comes");
+    println!("order 9 of 5 comes");
     life(folder, &orders, &outcomes, "paid")?;
     life(folder, &orders, &outcomes, NEVER)?;
     let bank = Bank {

@@ -111,7 +111,7 @@ _WRITE_ROOM = 1 << 16  # bytes of a write; more is taken where one doesn't fit
 class PolydbError(Exception):
     """A call was refused, and nothing has changed but where a kind of this error says so.
 
-    Where the opening of a site or a request is refused, `line`, `column` and `number` say where what was given is at fault, as `polydb_fault` of the header does; they are 0 elsewhere.
+    Where an opening of a site or an outbox, or a request, is refused, `line`, `column` and `number` say where what was given is at fault, as `polydb_fault` of the header does; they are 0 elsewhere.
     """
 
     line: int = 0
@@ -656,15 +656,17 @@ class Outbox(_Open):
 
     def hold(self, output: int, cases: Text = "1") -> None:
         """Holds an output, from 0 to 2**32 - 1, back under a condition: `1`, or cases as an item shows them, `0 if -0.1.0 ; 1 if +0.1.0`. It is held for good once its record is in the
-        file. An output that was held before is Again, whether it was released since or not."""
+        file. An output that was held before is Again, whether it was released since or not, and Unwritten while records wait to be written."""
         if not 0 <= output < 1 << 32:  # in C it has 32 bits, and the rest would be cut off
             raise ValueError(f"hold: an output is from 0 to 2**32 - 1 ({output})")
         text = _bytes(cases)
         _check(self._call(_outbox_hold, output, text, len(text)), "hold")
 
     def learn(self, transaction: str, commits: bool) -> None:
-        """Learns whether a transaction, `0.1.0`, commits. It is learnt for good once its record is in the file. Where an outcome was learnt before it is Known, with that `outcome`,
-        whichever is told now."""
+        """Learns whether a transaction, `0.1.0`, commits: True or False, and no Outcome. It is learnt for good once its record is in the file. Where an outcome was learnt before it is
+        Known, with that `outcome`, whichever is told now, and Unwritten while records wait to be written."""
+        if not isinstance(commits, bool):  # in C any other object would count as its truth, and each Outcome is true
+            raise TypeError(f"learn: whether it commits is True or False, not {commits!r}")
         site, epoch, number = _numbers_of(transaction)
         outcome = c_uint32(0)
         try:
@@ -681,8 +683,8 @@ class Outbox(_Open):
         return status == _DONE
 
     def take(self) -> Optional[int]:
-        """The next output that was released since the opening, once the record of its release is in the file; or None where all are taken. Its effect may be done now, and never
-        before. One that isn't taken before the outbox is closed, or its process killed, never is."""
+        """The next output that was released since the opening, once the record of its release is in the file, and Unwritten until then; or None where all are taken. Its effect may
+        be done now, and never before. One that isn't taken before the outbox is closed, or its process killed, never is."""
         output = c_uint32(0)
         status = self._call(_outbox_take, byref(output))
         if status == _NOTHING:

@@ -165,6 +165,8 @@ def what_is_refused():
     refused(polydb.NoSite, outbox.learn, "16.1.0", True)
     for name in ("", "0", "0.1", "0.1.0.0", "0.1.x", "256.1.0", "0.1.4294967296", "0.-1.0"):
         refused(ValueError, outbox.learn, name, True)
+    for commits in (Outcome.NOT_COMMITTED, Outcome.COMMITTED, "no", None, 1):
+        refused(TypeError, outbox.learn, "0.1.0", commits)
     for given in (5, [80, 86], None, "text"):
         refused(TypeError, Outbox, given)
     for given in (5, [49], None):

@@ -57,7 +57,7 @@ impl Outbox {
     }
 
     /// Holds an output back under a condition: `1`, or cases as an item shows them, `0 if -0.1.0 ; 1 if +0.1.0`. It is held for good once its record is in the file. An output
-    /// that was held before is [`Error::Again`], whether it was released since or not.
+    /// that was held before is [`Error::Again`], whether it was released since or not, and [`Error::Unwritten`] while records wait to be written.
     pub fn hold(&mut self, output: u32, cases: &[u8]) -> Result<(), Error> {
         answer(unsafe {
             calls::polydb_outbox_hold(&mut self.handle, output, cases.as_ptr(), cases.len())
@@ -65,7 +65,7 @@ impl Outbox {
     }
 
     /// Learns whether a transaction commits, by the three numbers of its `txn` report. It is learnt for good once its record is in the file. Where an outcome was learnt before it is
-    /// [`Error::Known`], with the one that counts, whichever is told now.
+    /// [`Error::Known`], with the one that counts, whichever is told now, and [`Error::Unwritten`] while records wait to be written.
     pub fn learn(
         &mut self,
         coordinator: u8,
@@ -102,8 +102,8 @@ impl Outbox {
         answer(status).map(|()| true)
     }
 
-    /// The next output that was released since the opening, once the record of its release is in the file; or `None` where all are taken. Its effect may be done now, and never
-    /// before. One that isn't taken before the outbox is dropped, or its process killed, never is.
+    /// The next output that was released since the opening, once the record of its release is in the file, and [`Error::Unwritten`] until then; or `None` where all are taken. Its
+    /// effect may be done now, and never before. One that isn't taken before the outbox is dropped, or its process killed, never is.
     pub fn take(&mut self) -> Result<Option<u32>, Error> {
         let mut output = 0;
         let status = unsafe { calls::polydb_outbox_take(&mut self.handle, &mut output) };
