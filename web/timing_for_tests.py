@@ -6,19 +6,19 @@ from time import perf_counter, process_time
 #: How soon a click is to be answered, in milliseconds.
 FLUENT = 100
 
-#: How soon it has to be, on any machine: some are twice as slow as those on which it takes less than that.
-AT_MOST = 250
+#: How many times as long anything may take, on any machine: some are twice as slow as those on which it takes no longer than it is to.
+AT_MOST = 2.5
 
 
-def judge(test, milliseconds, name):
+def judge(test, milliseconds, name, limit=FLUENT):
     """Says where something took longer than it is to, and fails the test where it took too long; but for a machine on which other work holds it up: that is said."""
-    if milliseconds < FLUENT:
+    if milliseconds < limit:
         return
     if is_busy():
         print(f"{name} isn't judged, as the machine has other work")
         return
-    print(f"{name} {milliseconds:.0f} ms, where it is to take less than {FLUENT}: on this machine, or from now on")
-    test.assertLess(milliseconds, AT_MOST, name)
+    print(f"{name} {milliseconds:.0f} ms, where it is to take less than {limit}: on this machine, or from now on")
+    test.assertLess(milliseconds, AT_MOST * limit, name)
 
 
 def is_busy():

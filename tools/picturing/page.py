@@ -6,6 +6,7 @@ from .layout import CHARACTER, GUTTER, LABEL_CHARACTERS, LABEL_GAP, LANE, ROW, S
 
 HEAD = 30
 CROSS_GAP = 8
+CROSS_ROOM = 4
 REPEAT = 600
 NOTE_CHARACTERS = 100
 FONT = "ui-monospace, 'DejaVu Sans Mono', Menlo, Consolas, monospace"
@@ -226,9 +227,10 @@ def label_at(x, y, text, style):
 
 
 def step_element(picture, block, place, step):
-    """A step's mark, with its label on the right."""
+    """A step's mark, with its label on the right, behind the cross of a message that is lost."""
     x, y = picture.columns[step.site][1], block.row(place)
-    return mark_element(x, y, step.mark) + label_at(x + LABEL_GAP, y, step.label, step.style)
+    room = CROSS_ROOM if step.delivery and step.style in ("lost", "down") else 0
+    return mark_element(x, y, step.mark) + label_at(x + LABEL_GAP + room, y, step.label, step.style)
 
 
 def report_element(picture, block):
