@@ -534,12 +534,15 @@ void polydb_site_close(polydb_site *site);
  *         while polydb_outbox_take gives an output: do its effect
  *
  * What is proved of it: polydb_outbox_take gives an output only once the host has said that the file has the record of its release. So over every list of calls, kills and
- * openings, where the host writes what it is told and a kill leaves any bytes in the range that is being written, no output is taken twice, and each was ready when it was released.
+ * openings, where the host writes what it is told and a kill leaves any bytes in the range that is being written, no output is taken twice, and none whose
+ * release an opening finds in the file; each was the ready one that was held first when it was released; and what a kill leaves is a
+ * journal of an outbox's records, so that its opening fails for want of memory alone.
  * What was held or learnt is there for good once the host has said that all is written that polydb_outbox_take_journal gave after it; before that a kill may undo it, and then it
  * is as if it had never been asked. At each moment the file is a journal of the first records of the outbox: of as many as the host has said to be written, or of these
  * and all of the group that it was given to write.
  *
  * An output that was released, and whose record is in the file, but that wasn't taken when the handle was closed or the process was killed, is never taken: its effect isn't done.
+ * Who has one at a time at stake releases one, writes, and takes it.
  *
  * What the host owes besides is what it owes of a site's file: that is synced before its bytes are read for the opening; a new one is POLYDB_EMPTY_JOURNAL, synced with its entry in
  * the folder before any call but the opening; it goes on to hold what was written and synced; where a write or a sync fails, polydb_outbox_journal_synced isn't called, and the same

@@ -73,6 +73,16 @@ begins (one ∷ front) (other ∷ contents) later others same short =
     (omega (arith, short, bytes, sum_by-cons (λ (content : List ℕ). 5 + length content) one front, sum_by-cons (λ (content : List ℕ). 5 + length content) other contents)) in
     (found.0, ap (λ (l : Contents). other ∷ l) found.1 ∙ ap (λ (c : List ℕ). c ∷ (front ++ found.0)) first)
 
+-- A file that has what is stored, or the group that was asked for too, is a journal of the first of the records.
+stored_records : (log : HostState) (file : List ℕ) (entries : List Record) → SpellRecords entries (contents_of log) → IsStored log file
+    → (contents : Contents) × (first : List Record) × IsJournal contents file × SpellRecords first contents
+stored_records log file entries spelled (inl journal) =
+    let parts = first_spelled entries log.stored (log.asked ++ log.pending) spelled in
+    (log.stored, parts.0, journal, parts.2)
+stored_records log file entries spelled (inr journal) =
+    let parts = first_spelled entries (log.stored ++ log.asked) log.pending (subst (SpellRecords entries) (sym (append_assoc log.stored log.asked log.pending)) spelled) in
+    (log.stored ++ log.asked, parts.0, journal, parts.2)
+
 -- ## Releases
 -- The release stands in the log, which was so long then.
 pub record IsReleased (contents : Contents) (release : Release) : Type 0 where
@@ -640,3 +650,33 @@ module _ (laws : Laws) where
       let parts = first_spelled now.entries old.outbox.log.stored (begun.0 ++ (log.asked ++ log.pending)) (subst (SpellRecords now.entries) whole now.spelled) in
       let same : now.entries ≡ entries ++ parts.1 = parts.4 ∙ ap (λ (l : List Record). l ++ parts.1) (laws.one parts.0 entries old.outbox.log.stored parts.2 spelled) in
       (parts.1, subst (λ (l : List Record). SpellRecords l (contents_of log)) same now.spelled, now.state ∙ ap state_of same)
+
+  -- What a file has as released isn't taken in any life that begins with it.
+  pub stored_never_again : (file : List ℕ) (contents : Contents) (entries : List Record) (acts : List Act) (end : Place) (output : ℕ) → IsJournal contents file
+      → SpellRecords entries contents → is_taken (state_of entries) output ≡ true → Life (closed file) acts end → All (λ other. output ≢ other) (taken_in acts)
+  stored_never_again file contents entries acts end output journal spelled says life =
+      never_again contents output acts (closed file) end tt (contents, journal, ([], sym (append-nil contents))) (entries, spelled, says) tt life
+
+  -- What is taken is stored as released.
+  pub taken_is_stored : (start file : List ℕ) (before : List Act) (old new : HostedState) (output : ℕ) → Life (closed start) before (running old file)
+      → TakesBy old new (Ok output) → SaysTaken old.outbox.log.stored output
+  taken_is_stored start file before old new output life takes_it =
+      (taken_stored old new file output (stands_at_end before (closed start) (running old file) tt life) takes_it).0
+
+  -- What is released is the ready output that was held first.
+  pub released_is_next : (start file : List ℕ) (before : List Act) (old new : HostedState) (answer : ⊤) → Life (closed start) before (running old file)
+      → ReleasesBy old new (Ok answer) → (entries : List Record) × (output : ℕ) × SpellRecords entries (contents_of old.outbox.log) × IsNext (state_of entries) output
+      × SpellRecords (entries ++ taken output ∷ []) (contents_of new.outbox.log)
+  released_is_next start file before old new answer life does =
+      let standing : Standing old file = stands_at_end before (closed start) (running old file) tt life in
+      let next : IsNext old.outbox.state does.0 = does.1.may in
+      let more = added old new file (taken does.0) standing does.1 in
+      (standing.entries, does.0, standing.spelled, subst (λ (state : State). IsNext state does.0) standing.state next, more.spelled)
+
+  -- What a kill leaves is a journal of records.
+  pub left_records : (start file left : List ℕ) (before : List Act) (hosted : HostedState) → Life (closed start) before (running hosted file)
+      → MayLeave hosted.outbox.log file left → (contents : Contents) × (entries : List Record) × IsJournal contents left × SpellRecords entries contents
+  left_records start file left before hosted life may =
+      let standing : Standing hosted file = stands_at_end before (closed start) (running hosted file) tt life in
+      let log = hosted.outbox.log in
+      stored_records log left standing.entries standing.spelled (laws.journals log left (laws.crashed log file left standing.is_file may))
