@@ -252,7 +252,7 @@ void polydb_world_close(polydb_world *world);
  * A message may be lost, may come late and may come twice: the protocol is made for that. That sites of several hosts agree is a law: whatever happens to them, there is one
  * run of all sites together, a list of events, in which what they have let out was sent or printed, and what they show is shown; and it goes on as they do. It asks for what
  * these calls are proved to do (docs/EMBEDDING.md has both side by side), and of hosts for what stands below. The run's programs are those
- * that hosts gave to their sites, each under the number that was let out for it. Not promised: that its requests have the texts that a schedule for `polydb run` has; nor any run once
+ * that hosts gave to their sites, each under the number that its site gave to it. Not promised: that its requests have the texts that a schedule for `polydb run` has; nor any run once
  * the configuration has grown, be it one across or one of what comes then, since the law begins with new files (docs/EMBEDDING.md, What isn't said).
  * Time is the host's: a site that waits for an answer gives up at its third tick, lets go of
  * its locks at their third, and then asks again at each tick; and never without one.
@@ -260,7 +260,8 @@ void polydb_world_close(polydb_world *world);
  * What the host owes besides (`host/polydb_host.h` does what is on files of it, for a site on a folder, and `node/polydb_node.h` carries messages and ticks too):
  *   - a file that is there is synced before its bytes are read for polydb_site_open: the site counts as written all that it finds, and of a process that was killed the file may
  *     show bytes that aren't on the disk yet. A new one, and a copy, are synced, with their entry in the folder, before any call but the opening;
- *   - the file of a site that is opened the first time is POLYDB_EMPTY_JOURNAL, with any bytes behind it; and later the one that its last process left;
+ *   - the file of a site that is opened the first time is POLYDB_EMPTY_JOURNAL, with any bytes behind it; and later the one that its last process left. An opening after which no
+ *     other call is made on the site is nothing: the file may become what the process before it might have left, or be gone where it was new;
  *   - the file goes on to hold what it held when its bytes were read for polydb_site_open, and what was written and synced before polydb_site_journal_synced was called, also
  *     when the site is opened again. A crash in a write, or a write that fails, leaves there any bytes or none, and all other bytes alone. The host writes
  *     nothing else into it (but see polydb_site_open and polydb_site_take_journal);

@@ -16,7 +16,7 @@ from pathlib import Path
 sys.path.insert(0, str(Path(__file__).resolve().parent.parent))
 
 import polydb  # noqa: E402
-from polydb import EMPTY_JOURNAL, Message, Site  # noqa: E402
+from polydb import EMPTY_JOURNAL, Message, Outcome, Site  # noqa: E402
 
 HEADER = 8  # bytes before the first gate
 HEAD = 5  # a gate, and the length of its record
@@ -93,13 +93,20 @@ class Given:
         self.lines = lines  # what the schedule's run prints
 
 
+class Shown:
+    """What the sites show at one moment: lines of items, and what they tell of transactions of theirs whose numbers they have reported."""
+
+    def __init__(self, items, outcomes):
+        self.items, self.outcomes = items, outcomes
+
+
 class Schedule:
     """The events so far, and what their run is to print."""
 
     def __init__(self, config, sites):
         self.events = [config]
         self.count = 0
-        self.wanted = []  # lines; and for a report the lines of items that were read
+        self.wanted = []  # lines; and for a report what was shown
         self.messages = []  # by number
         self.is_born = [False] * sites  # whether a start of the site was written
         self.is_up = [False] * sites
@@ -135,24 +142,43 @@ class Schedule:
         text = "".join(self.events)
         status, said = run_of(text)
         lines = iter(said.splitlines())
+        final = {}  # whether it commits, of each transaction of which that was told
         for number, wanted in enumerate(self.wanted, 1):
             line = next(lines, None)
-            if isinstance(wanted, dict):
-                shown = {}
+            if isinstance(wanted, Shown):
+                shown, lists = {}, {"committed": set(), "open": set()}
                 while line not in (None, "end"):
                     word, _, rest = line.partition(" ")
                     if word == "item":
                         name, _, value = rest.partition(" ")
                         shown[name] = value
+                    elif word in lists:
+                        lists[word].update(rest.split())
                     line = next(lines, None)
-                for name, value in wanted.items():
+                for name, value in wanted.items.items():
                     if shown.get(name) != value:
                         raise Found(f"a reading of {name}: the run has {shown.get(name)}, and the site has {value}")
+                compare_outcomes(wanted.outcomes, final, **lists)
             elif line != wanted:
                 raise Found(f"line {number} of what is printed: the run has {line!r}, and the sites have {wanted!r}")
         left = next(lines, None)
         if status != 0 or left is not None:
             raise Found(f"the run ends with status {status}, and goes on with {left!r}")
+
+
+def compare_outcomes(told, final, committed, open):
+    """What sites tell of transactions is so in the run, and all that was told as final before is so still."""
+    for transaction, outcome in told.items():
+        if outcome is None:
+            raise Found(f"{transaction} was reported, and its site says that it may give the number yet")
+        if outcome is Outcome.AT_WORK:
+            if transaction in committed:
+                raise Found(f"{transaction} is at work, its site says, and is committed in the run")
+        elif final.setdefault(transaction, outcome is Outcome.COMMITTED) != (outcome is Outcome.COMMITTED):
+            raise Found(f"{transaction} was told otherwise before: now {outcome}")
+    for transaction, commits in final.items():
+        if commits != (transaction in committed) or (not commits and transaction in open):
+            raise Found(f"{transaction} {'commits' if commits else 'never commits'}, its site has said, and it isn't so in the run")
 
 
 def program():
@@ -216,6 +242,7 @@ class Process:
         lines = [] if is_first else [f"started {me} {self.ahead.epoch}"]
         self.waiting.append(Given(None if is_first else f"start {me}", self.ahead.length, [], lines))
         self.is_open = False  # whether that start has happened
+        self.is_replaced = False  # whether it lives on when the next one has its file
 
     def found(self):
         """The bytes that it is opened on: all of the file, or the journal in it."""
@@ -313,6 +340,8 @@ class Process:
             self.deployment.carry(made)
         elif made != out.line:
             raise Found(f"site {self.me} reports {out.line!r}, and {made!r} is made")
+        elif made.startswith("txn "):
+            self.deployment.reported[self.me].append(made.split()[1])
         self.deployment.count("let out")
 
     def readings(self):
@@ -332,10 +361,21 @@ class Process:
                 self.deployment.count("readings in doubt", " if " in shown[name])
         return shown
 
+    def outcomes(self):
+        """What it tells of some transactions of its site, where all is written."""
+        numbers, told = self.deployment.reported[self.me], {}
+        for transaction in {*numbers[-3:], *self.chance.sample(numbers, min(len(numbers), 5))}:
+            try:
+                told[transaction] = self.site.outcome(transaction)
+            except polydb.Unwritten:
+                return {}
+        self.deployment.count("outcomes told", len(told))
+        return told
+
     # ---- its end ----
 
     def go(self):
-        """It is killed, at any moment: within a write too, of which any bytes are left."""
+        """It is killed, at any moment: within a write too, of which any bytes are left. Or it is replaced then, and what could have been taken from it is taken later."""
         if self.wanted is not None and not self.is_synced:
             self.file.tear(self.wanted, self.chance)
         left, records = journal_length(self.file.data)
@@ -346,5 +386,6 @@ class Process:
         self.deployment.count("epochs lost in kills", not self.is_open)
         if self.is_open:
             self.schedule.stops(self.me)
-        self.site.close()
         self.ahead.site.close()
+        if not self.is_replaced:
+            self.site.close()

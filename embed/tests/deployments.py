@@ -1,5 +1,6 @@
-"""Drawn deployments: sites in processes of their own, over files that tear, killed at any moment and oftener while a write is under way, with messages that are lost, come late,
-overtake one another, come twice, or come from processes long gone. Each is written down as a schedule, whose run has to be what the sites have let out and shown.
+"""Drawn deployments: sites in processes of their own, over files that tear, or over stores that take records and their gate together. They are killed at any moment and oftener
+while a write is under way, or replaced while they live, with messages that are lost, come late, overtake one another, come twice, or come from processes long gone. Each is
+written down as a schedule, whose run has to be what the sites have let out and shown, and told of their transactions.
 
     deployments.py [EVENTS [SEED [ONLY]]]
 
@@ -13,18 +14,43 @@ import time
 from collections import Counter, deque
 
 import deployed
-from deployed import File, Found, Process, Schedule
+from deployed import File, Found, Process, Schedule, Shown
 from polydb import Full, JournalWrite, engine
 
 MOST_TRIED = 2_000  # deployments of a wrong host until it has to be found
 
 
+class OverAStore(Process):
+    """Its journal is in a store that takes several writes whole or not at all: it is often given records and their gate together, and told to the site one after the other."""
+
+    def is_of_records(self):
+        return self.wanted.place >= self.stored
+
+    def write(self):
+        super().write()
+        if self.is_of_records() and self.chance.random() < 0.7:
+            self.file.put(self.stored - 1, b"\1")
+            self.deployment.count("writes with their gate")
+
+    def write_some(self):
+        if self.chance.random() < 0.3:
+            self.file.write(self.wanted)
+        self.is_begun = True
+
+    def go(self):
+        if self.wanted is not None and not self.is_synced:
+            if self.chance.random() < 0.5:
+                self.write()
+            self.is_synced = True  # there wholly, or not at all
+        super().go()
+
+
 class Deployment:
     """Sites with files, the processes that are there now, and all messages that were ever let out."""
 
-    def __init__(self, seed, host=Process, counts=None):
+    def __init__(self, seed, host=None, counts=None):
         self.chance = chance = random.Random(seed)
-        self.host = host
+        self.host = host or chance.choice((Process, Process, OverAStore))
         self.counts = Counter() if counts is None else counts
         self.sites = chance.choice((1, 2, 2, 2, 3, 3, 3, 4))
         names = "abcdefgh"[: chance.randint(max(2, self.sites), 8)]
@@ -41,6 +67,8 @@ class Deployment:
         self.copies = [[] for _ in range(self.sites)]  # where a host is wrong: of its file
         self.on_the_way = [deque() for _ in range(self.sites)]
         self.let_out = [[] for _ in range(self.sites)]
+        self.reported = [[] for _ in range(self.sites)]  # the numbers of transactions
+        self.outlived = []  # processes that live on
         self.draw_habits()
 
     def draw_habits(self):
@@ -52,7 +80,9 @@ class Deployment:
         self.overtaking = chance.choice((0.0, 0.1, 0.5))
         self.old = chance.choice((0.0, 0.01, 0.05))
         self.promptness = chance.choice((0.05, 0.5, 0.9))  # how often all is written and let out at once
+        self.slowness = chance.choice((0.0, 0.0, 0.0, 0.9))  # how often the host is at something else
         self.killing = chance.choice((0.0, 0.002, 0.01, 0.03))
+        self.outliving = chance.choice((0.0, 0.5))  # how often one that would be killed is replaced
         self.ticking = chance.choice((0.005, 0.02, 0.1))
         self.asking = chance.choice((0.02, 0.06, 0.15))
         self.reading = 0.02
@@ -76,6 +106,8 @@ class Deployment:
         chance = self.chance
         me = chance.randrange(self.sites)
         process = self.processes[me]
+        if self.outlived and chance.random() < 0.2:
+            chance.choice(self.outlived).let_out(chance.choice((1, 2, 5)))
         if self.late and self.processes[self.late[0][0]] is not None and chance.random() < 0.3:
             site, write = self.late.pop(0)
             self.files[site].write(write)
@@ -101,6 +133,8 @@ class Deployment:
 
     def settle(self, process, wholly):
         """The host goes on: with all that there is, or with a step or two."""
+        if self.chance.random() < self.slowness:
+            return
         if wholly:
             for _ in range(100):
                 if not process.work():
@@ -121,8 +155,12 @@ class Deployment:
             self.is_full[me] = True
 
     def kill(self, me):
-        self.processes[me].go()
-        self.processes[me] = None
+        process, self.processes[me] = self.processes[me], None
+        process.is_replaced = self.chance.random() < self.outliving
+        process.go()
+        if process.is_replaced:
+            self.outlived.append(process)
+            self.count("replaced")
 
     def deliver(self, me):
         chance, way = self.chance, self.on_the_way[me]
@@ -140,11 +178,12 @@ class Deployment:
         self.processes[me].deliver(message)
 
     def read(self):
-        """A reading of all items that can be read, beside a report."""
-        shown = {}
+        """A reading of all items that can be read, and what is told of some transactions, beside a report."""
+        shown = Shown({}, {})
         for process in self.processes:
             if process is not None:
-                shown.update(process.readings())
+                shown.items.update(process.readings())
+                shown.outcomes.update(process.outcomes())
         self.schedule.add("report", shown)
 
     def draw_program(self):
@@ -178,6 +217,9 @@ class Deployment:
         if self.chance.random() < 0.5:
             self.come_to_rest()
         self.read()
+        for process in self.outlived:
+            process.let_out(1_000)
+            process.site.close()
         self.schedule.run()
         self.count("events", self.schedule.count)
         self.count("deployments")
@@ -187,7 +229,7 @@ class Deployment:
 
     def come_to_rest(self):
         """All processes are there, nothing fails any more, and all that is on its way comes."""
-        self.killing = self.failing = self.losing = self.repeating = self.overtaking = self.old = 0.0
+        self.slowness = self.killing = self.failing = self.losing = self.repeating = self.overtaking = self.old = 0.0
         for tick in range(6):
             for me in range(self.sites):
                 if self.processes[me] is None:

@@ -257,6 +257,9 @@ class EtcdProcess:
                 self.deployment.count("readings")
         return shown
 
+    def outcomes(self):
+        return {}
+
     # ---- its end ----
 
     def go(self):
@@ -325,6 +328,7 @@ class EtcdDeployment(Deployment):
         super().__init__(seed, EtcdProcess, counts)
         self.patience = self.chance.choice(PATIENCE)
         self.replacing = self.chance.choice((0.0, 0.005, 0.02))
+        self.outliving = 0.0  # here a process is replaced at another moment than one is killed
         self.killing = self.chance.choice((0.0, 0.005, 0.02, 0.04))
         Proxy.chance, Proxy.failing = random.Random(f"{seed} proxy"), self.chance.choice((0.0, 0.02, 0.1, 0.3))
 

@@ -15,7 +15,7 @@ from pathlib import Path
 sys.path.insert(0, str(Path(__file__).resolve().parent))
 
 import etcd_store  # noqa: E402
-from deployed import Ahead, Found, Given, Schedule, Sent, journal_length  # noqa: E402
+from deployed import Ahead, Found, Given, Schedule, Sent, Shown, journal_length  # noqa: E402
 from polydb import Site  # noqa: E402
 
 
@@ -117,7 +117,7 @@ def happens(schedule, me, step, sent):
     if step is STOP:
         schedule.stops(me)
     elif isinstance(step, Reading):
-        schedule.add("report", {step.name: step.value})
+        schedule.add("report", Shown({step.name: step.value}, {}))
     else:
         is_start = isinstance(step.event, str) and step.event.startswith("start ")
         if isinstance(step.event, bytes):

@@ -22,6 +22,7 @@ use Rattle.pv_embed.specs.Hosted.{HostedState, log_length, stored_length}
 use Rattle.pv_law_hosted.proofs.GivenLemmas.{nothing-waits}
 use Rattle.pv_law_hosted.proofs.WithinLemmas.{within-front}
 use Rattle.pv_law_hosted.specs.Claims.{HoldsSite}
+use Rattle.pv_law_hosted.specs.DeploymentEvents.{HoldTheSame}
 use Rattle.pv_law_hosted.specs.Asked.{Asked}
 use Rattle.pv_law_hosted.specs.Deployment.{Deployment, IsNew, IsNewStation, no_station, station_at}
 use Rattle.pv_law_hosted.specs.Given.{Content, Given, with_all}
@@ -49,6 +50,14 @@ seen-gone file content site rest unborn gone =
 pub journal-left : (file : List ℕ) (site : Site) → HoldsSite file site → (contents : Contents) × (records : List Record) × IsJournal contents file × SpellRecords records contents
 journal-left file site (inl left) = (left.0, site.records, left.1, left.2)
 journal-left file site (inr left) = ([], [], left.0, tt)
+
+-- Other bytes that hold the same hold the site, too.
+pub holds-moved : (one : (bytes : List ℕ) (contents others : Contents) → IsJournal contents bytes → IsJournal others bytes → contents ≡ others)
+    → (file bytes : List ℕ) → HoldTheSame file bytes → (site : Site) → HoldsSite file site → HoldsSite bytes site
+holds-moved one file bytes same site (inl left) =
+    inl (left.0, subst (λ (contents : Contents). IsJournal contents bytes) (one file same.0 left.0 same.1 left.1) same.2, left.2, left.3)
+holds-moved one file bytes same site (inr left) =
+    inr (subst (λ (contents : Contents). IsJournal contents bytes) (one file same.0 [] same.1 left.0) same.2, left.1)
 
 -- None of its contents is bad.
 pub bad-left : (contents others : Contents) (records : List Record) (index : ℕ) → contents ≡ others → SpellRecords records contents → IsFirstBadContent others index → ⊥

@@ -29,7 +29,7 @@ use Rattle.pv_law_hosted.specs.DeploymentEvents.{Happens, HappensAt, HappensTo, 
 use Rattle.pv_law_hosted.specs.Given.{Content}
 use Rattle.pv_law_hosted.specs.Mirrored as mirrored
 use Rattle.pv_law_hosted.specs.Mirrored.{FollowsHosted, FollowsProcess, IsMirrored, IsSeenAs, world_of}
-use Rattle.pv_law_hosted.specs.Numbers.{AreNumbersFirst, HasNumbers, IsKept, IsNumberFirst, IsNumbered, IsSaying, WereVotesAsked, held_by, outs_of}
+use Rattle.pv_law_hosted.specs.Numbers.{AreNumbersFirst, HasNumbers, IsAskedAfter, IsKept, IsNumberFirst, IsNumbered, IsSaying, WereVotesAsked, held_by, outs_of}
 use Rattle.pv_law_step.proofs.Lists.{all-head, all-tail}
 use Rattle.pv_law_step.proofs.StartLemmas.{start-case}
 use Rattle.pv_law_world.proofs.GrowthLemmas.{Extends, same}
@@ -308,8 +308,8 @@ module _ (setup : Setup) (d : Deployment) (events : List Event) (m : IsMirrored 
       (λ beyond.
       absurd (false≢true (subst (λ (s : model.Site). list_any (says_yes txn) s.records ≡ true) (get_or_past world.sites n no_site (let all = m.sites in omega (arith, all, beyond))) says)))
 
-  number-out : votes → Contains (station_at d (home_of txn)).let_out (note (began txn))
-  number-out (n, out, there, asking) =
+  asked-out : votes → IsAskedAfter txn (station_at d (home_of txn)).let_out
+  asked-out (n, out, there, asking) =
       let station = station_at d n in
       let held = held_by station.hosted in
       dite (dec_le (n + 1) setup.catalog.sites)
@@ -320,9 +320,17 @@ module _ (setup : Setup) (d : Deployment) (events : List Event) (m : IsMirrored 
       is.first p.0 (p.1 ++ held) out (ap (λ (l : List Out). l ++ held) p.2 ∙ append_assoc p.0 (out ∷ p.1) held) asking in
       let number : Contains station.let_out (note (began txn)) =
       subst (λ (l : List Out). Contains l (note (began txn))) (sym p.2) (Contains-append_left p.0 (out ∷ p.1) (note (began txn)) first) in
-      subst (λ k. Contains (station_at d k).let_out (note (began txn))) (sym (is.own (Contains-append_left station.let_out held (note (began txn)) number))) number)
+      let after : IsAskedAfter txn station.let_out =
+      record { earlier = p.0; out = out; later = p.1; split = p.2; asking = asking; numbered = first } in
+      subst (λ k. IsAskedAfter txn (station_at d k).let_out) (sym (is.own (Contains-append_left station.let_out held (note (began txn)) number))) after)
       (λ beyond.
       absurd (no-member out (subst (λ (s : Station). Contains s.let_out out) (get_or_past d n no_station (let all = m.stations in omega (arith, all, beyond))) there)))
 
+  pub is-asked-after : IsTrue (is_committed (world_of setup events) txn) → IsAskedAfter txn (station_at d (home_of txn)).let_out
+  is-asked-after is = asked-out (asked-of is)
+
   pub has-number-out : IsTrue (is_committed (world_of setup events) txn) → Contains (station_at d (home_of txn)).let_out (note (began txn))
-  has-number-out is = number-out (asked-of is)
+  has-number-out is =
+      let after = is-asked-after is in
+      subst (λ (l : List Out). Contains l (note (began txn))) (sym after.split)
+      (Contains-append_left after.earlier (after.out ∷ after.later) (note (began txn)) after.numbered)

@@ -41,6 +41,15 @@ IsSaying txn (message envelope) = SaysVoted txn envelope.message
 IsSaying txn (note reported) = ⊥
 
 -- ## A deployment
+-- A station that has let out this has asked for a vote on the transaction, behind its number.
+pub record IsAskedAfter (txn : TxnId) (let_out : List Out) : Type 0 where
+  pub earlier : List Out
+  pub out : Out
+  pub later : List Out
+  pub split : let_out ≡ earlier ++ out ∷ later
+  pub asking : IsAsking txn out
+  pub numbered : Contains earlier (note (began txn))
+
 -- Some station has let out that it asks for a vote on the transaction.
 abbrev pub WereVotesAsked : Deployment → TxnId → Type 0
 WereVotesAsked d txn = (n : ℕ) × (out : Out) × Contains (station_at d n).let_out out × IsAsking txn out

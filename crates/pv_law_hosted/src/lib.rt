@@ -35,7 +35,7 @@ ghost use Rattle.pv_law_hosted.specs.Deployment.{Deployment, IsNew, Station, sta
 ghost use Rattle.pv_law_hosted.specs.DeploymentEvents.{Happens, HoldTheSame, MayLeaveAhead, MayTake, Stands};
 ghost use Rattle.pv_law_hosted.specs.Made.{IsLetOutOf, made_as, made_by};
 ghost use Rattle.pv_law_hosted.specs.Mirrored.{IsMirrored, plain_site, world_of};
-ghost use Rattle.pv_law_hosted.specs.Numbers.{AreNumbersFirst};
+ghost use Rattle.pv_law_hosted.specs.Numbers.{AreNumbersFirst, IsAskedAfter};
 ghost use Rattle.pv_law_hosted.specs.OneOutcome.{IsSaid};
 ghost use Rattle.pv_law_hosted.specs.Reports.{reports_of};
 ghost use Rattle.pv_law_hosted.specs.Worked as worked;
@@ -268,7 +268,7 @@ pub fn hosted_time_is_kept()
 /// The run's programs are those that hosts have given to their sites:
 ///
 /// - Whatever a request begins in the run has the program that a process of its site was asked for last under its number (`begun`). So where the number was let out, it is the program of the
-///   request that has the number: only one whose number came into no file is given to another request, and from when it is let out on it never is (`hosted_time_is_kept`).
+///   request that has the number, as a process gives none to two requests: only one whose number came into no file is given to another request, and from when it is let out on it never is (`hosted_time_is_kept`).
 /// - So each transaction of the order, by whose programs all that is shown and answered goes, has the program that was asked for under its number
 ///   (`order`). So what each program that hosts ask for keeps, the serial run keeps.
 pub fn hosted_programs_are_asked_for()
@@ -293,24 +293,25 @@ pub fn hosted_readings_last()
     what_is_open_was_open();
 }
 
-/// The file that a process has left is read by the next one: whatever the configuration is, an opening on it isn't refused since it were no journal, or held what is no
-/// record; and where the configuration is the deployment's (`narrow`), or that with another limit of journals (`raised`), or with more items behind its own (`grown`), not
-/// since its records gave an item too many outcomes.
+/// The file that a process has left is read by the next one: whatever the configuration is, an opening on it, or on other bytes that hold the same, isn't refused since it were
+/// no journal, or held what is no record; and where the configuration is the deployment's (`narrow`), or that with another limit of journals (`raised`), or with more items
+/// behind its own and any limit (`grown`), not since its records gave an item too many outcomes.
 pub fn left_files_are_read()
-    ensures ours { (config : List ℕ) (setup : Setup) (d : Deployment) (events : List Event) (n place : ℕ) → IsMirrored setup d events → n < setup.catalog.sites →
-        (station_at d n).hosted ≡ None → OpensHosted config n (station_at d n).file (Err (NotOurs place)) → ⊥ }
-    ensures records { (config : List ℕ) (setup : Setup) (d : Deployment) (events : List Event) (n index : ℕ) → IsMirrored setup d events → n < setup.catalog.sites →
-        (station_at d n).hosted ≡ None → OpensHosted config n (station_at d n).file (Err (BadRecord index)) → ⊥ }
-    ensures narrow { (config : List ℕ) (schedule : Schedule) (d : Deployment) (events : List Event) (n count : ℕ) → Configures config schedule →
-        IsMirrored (setup_of schedule.catalog) d events → n < schedule.catalog.sites → (station_at d n).hosted ≡ None →
-        OpensHosted config n (station_at d n).file (Err (TooManyOutcomes count)) → ⊥ }
-    ensures raised { (config later_config : List ℕ) (schedule later : Schedule) (limit : ℕ) (d : Deployment) (events : List Event) (n count : ℕ) →
+    ensures ours { (config : List ℕ) (setup : Setup) (d : Deployment) (events : List Event) (n place : ℕ) (bytes : List ℕ) → IsMirrored setup d events →
+        n < setup.catalog.sites → (station_at d n).hosted ≡ None → HoldTheSame (station_at d n).file bytes → OpensHosted config n bytes (Err (NotOurs place)) → ⊥ }
+    ensures records { (config : List ℕ) (setup : Setup) (d : Deployment) (events : List Event) (n index : ℕ) (bytes : List ℕ) → IsMirrored setup d events →
+        n < setup.catalog.sites → (station_at d n).hosted ≡ None → HoldTheSame (station_at d n).file bytes → OpensHosted config n bytes (Err (BadRecord index)) → ⊥ }
+    ensures narrow { (config : List ℕ) (schedule : Schedule) (d : Deployment) (events : List Event) (n count : ℕ) (bytes : List ℕ) → Configures config schedule →
+        IsMirrored (setup_of schedule.catalog) d events → n < schedule.catalog.sites → (station_at d n).hosted ≡ None → HoldTheSame (station_at d n).file bytes →
+        OpensHosted config n bytes (Err (TooManyOutcomes count)) → ⊥ }
+    ensures raised { (config later_config : List ℕ) (schedule later : Schedule) (limit : ℕ) (d : Deployment) (events : List Event) (n count : ℕ) (bytes : List ℕ) →
         Configures config schedule → Configures later_config later → later.catalog ≡ record schedule.catalog { journal = limit } →
-        IsMirrored (setup_of schedule.catalog) d events → n < schedule.catalog.sites → (station_at d n).hosted ≡ None →
-        OpensHosted later_config n (station_at d n).file (Err (TooManyOutcomes count)) → ⊥ }
-    ensures grown { (config later_config : List ℕ) (schedule later : Schedule) (d : Deployment) (events : List Event) (n count : ℕ) → Configures config schedule →
-        Configures later_config later → HasGrown schedule.catalog later.catalog → IsMirrored (setup_of schedule.catalog) d events → n < schedule.catalog.sites →
-        (station_at d n).hosted ≡ None → OpensHosted later_config n (station_at d n).file (Err (TooManyOutcomes count)) → ⊥ }
+        IsMirrored (setup_of schedule.catalog) d events → n < schedule.catalog.sites → (station_at d n).hosted ≡ None → HoldTheSame (station_at d n).file bytes →
+        OpensHosted later_config n bytes (Err (TooManyOutcomes count)) → ⊥ }
+    ensures grown { (config later_config : List ℕ) (schedule later : Schedule) (grown : Declared) (limit : ℕ) (d : Deployment) (events : List Event) (n count : ℕ)
+        (bytes : List ℕ) → Configures config schedule → Configures later_config later → HasGrown schedule.catalog grown → later.catalog ≡ record grown { journal = limit } →
+        IsMirrored (setup_of schedule.catalog) d events → n < schedule.catalog.sites → (station_at d n).hosted ≡ None → HoldTheSame (station_at d n).file bytes →
+        OpensHosted later_config n bytes (Err (TooManyOutcomes count)) → ⊥ }
 {
     mirrored_deployments_agree();
     locks_are_coherent();
@@ -374,13 +375,16 @@ pub fn hosted_sites_tell_one_outcome()
     refusals_hold();
 }
 
-/// A transaction that commits has had its number let out, by the site that has begun it: so a host that keeps what it has of its requests by their numbers, as they are
-/// let out, has the number of whatever commits. From a new deployment on (`new`), whatever happens in it (`event`), the number stands before whatever asks for a vote on the
-/// transaction, since one process makes both; and no site votes, and nothing commits, where no vote was asked for in a message that was let out.
+/// A transaction that commits has had its number let out, by the site that has begun it (`committed`); and behind the number that site has let out a message that asks for a vote
+/// on the transaction (`asked`). So a host that keeps the number of each request as it takes it, before it takes anything more, has the number of whatever commits, also where it
+/// is killed between the two: what isn't committed as its process goes never is, since nobody works on it then. From a new deployment on (`new`), whatever happens in it
+/// (`event`), the number stands before whatever asks for a vote on the transaction, since one process makes both.
 pub fn commits_have_their_numbers_out()
     ensures new { (catalog : Declared) (d : Deployment) → IsNew catalog d → AreNumbersFirst (setup_of catalog) d }
     ensures event { (config : List ℕ) (schedule : Schedule) (d later : Deployment) (events : List Event) → IsMirrored (setup_of schedule.catalog) d events →
         AreNumbersFirst (setup_of schedule.catalog) d → Happens config schedule.catalog d later → AreNumbersFirst (setup_of schedule.catalog) later }
+    ensures asked { (setup : Setup) (d : Deployment) (events : List Event) (txn : TxnId) → IsMirrored setup d events → AreNumbersFirst setup d →
+        IsTrue (is_committed (world_of setup events) txn) → IsAskedAfter txn (station_at d (home_of txn)).let_out }
     ensures committed { (setup : Setup) (d : Deployment) (events : List Event) (txn : TxnId) → IsMirrored setup d events → AreNumbersFirst setup d →
         IsTrue (is_committed (world_of setup events) txn) → Contains (station_at d (home_of txn)).let_out (note (began txn)) }
 {

@@ -26,7 +26,8 @@ ghost use Rattle.pv_protocol.specs.State.{tick};
 /// begun, each with the tag of its own request (`taken`), and with all else comes 0. An accepted request adds its tag with the number that it gets, if it gets one
 /// (`submitted`); no other call gives, takes or tells a tag.
 ///
-/// So of a transaction that commits, whose number was let out before (`commits_have_their_numbers_out` of pv_law_hosted), the host was told the tag of its request.
+/// So of a transaction that commits, whose number was let out before (`commits_have_their_numbers_out` of pv_law_hosted), the host was told the tag of its request, where it took that
+/// report by the call that gives tags: the call without drops the tag.
 pub fn tags_are_told_with_their_numbers()
     ensures opened { (config file : List ℕ) (me : ℕ) (site : ByteState) → OpensBytes config me file (Ok site) → IsTagged untagged site }
     ensures submitted { (tagging : Tagging) (old new : ByteState) (text : List ℕ) (query : Bool) (tag : ℕ) (done : ⊤) → IsTagged tagging old →

@@ -1,4 +1,4 @@
-use Rattle.pv_law_hosted.proofs.NumberEvents.{has-number-out, new-numbers, numbers-stay-first}
+use Rattle.pv_law_hosted.proofs.NumberEvents.{has-number-out, is-asked-after, new-numbers, numbers-stay-first}
 use Rattle.pv_law_hosted.proofs.commits_have_their_numbers_out.Goals as goal
 
 pub returns-clause-new : goal.returns-clause-new
@@ -22,6 +22,9 @@ returns-clause-event c =
       written = c.files_hold_what_was_let_out.ensures.written;
       crashed = c.files_hold_what_was_let_out.ensures.crashed;
     }
+
+pub returns-clause-asked : goal.returns-clause-asked
+returns-clause-asked c = λ setup d events txn m firsts is. is-asked-after setup d events m firsts txn is
 
 pub returns-clause-committed : goal.returns-clause-committed
 returns-clause-committed c = λ setup d events txn m firsts is. has-number-out setup d events m firsts txn is
