@@ -571,7 +571,7 @@ typedef struct {
 uint32_t polydb_outbox_open(polydb_outbox *outbox, const uint8_t *journal, size_t journal_length, polydb_fault *fault);
 
 /*
- * Holds an output back under a condition: a value, 0 or 1, or cases as a report has them, as `0 if -0.1.0 ; 1 if +0.1.0`. They are canonical, as polydb writes them, in one line of
+ * Holds an output back under a condition: a value, 0 or 1, or cases as a report has them, as `0 if -0.1.0 ; 1 if +0.1.0`. They are canonical, as polydb writes them, but that numbers may begin with zeros, in one line of
  * POLYDB_MAX_CASES bytes at most, name at most 12 transactions, and each has a site below 16. Of several that hold one output the first counts.
  *
  *   POLYDB_DONE       the outbox has it, and its record is to be written: it is held for good once that is in the file
