@@ -80,8 +80,8 @@ module _ {W : Type 0} (sink : sinks.Ghosts W) (before after : W) (status : Statu
     -- Where the input is such a trace, that is its answer: it gave up, or is done.
     pub fine : length input ≤ MAX_INPUT → (trace : Trace) → IsTrace input trace → All (IsFine trace.catalog) (reports trace)
         → GivesUpOr sink status Done (verdict_text trace.catalog (all_agree (length (reports trace)))) before after
-    -- Where the input is the trace of a schedule's run, which `trace` wrote to its end, it gave up, or found that all agree, or that a limit is passed: it
-    -- says neither that a report doesn't agree nor that the input is no trace.
+    -- Where the input is the trace of a schedule's run, which `trace` wrote to its end, and no longer than an input may be, it gave up, or found that all agree,
+    -- or that a limit is passed: it says neither that a report doesn't agree nor that the input is no trace.
     pub traced : (schedule : List ℕ) → IsRunAnswer form.Trace schedule Done input → length input ≤ MAX_INPUT → GivesUp status ⊎ ((status ≡ Done) ⊎ (status ≡ Limit))
     -- It gave up, or wrote an answer to the input, whose status this is.
     pub answered : GivesUp status ⊎ ((output : List ℕ) × IsAuditAnswer input status output × Writes sink before after output)
