@@ -4,6 +4,7 @@ pub mod Calls
 pub mod Committed
 pub mod Crashes
 pub mod Doubts
+pub mod Given
 pub mod Inputs
 pub mod LastVote
 pub mod Lending

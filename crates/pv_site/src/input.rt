@@ -1,4 +1,8 @@
 // What a site is given to do, and what it answers.
+ghost use Rattle.std.specs.Prelude.{◌≡◌};
+ghost use Rattle.pv_site.specs.Given.{input_in};
+ghost use Rattle.pv_site.specs.Values.{input_of};
+
 use pv_ast::{Program, Reply};
 use pv_base::{ItemId, SiteId, TxnId};
 use pv_check::Plan;
@@ -24,6 +28,43 @@ pub enum Input {
     },
     /// Time has passed.
     Tick,
+}
+
+/// What a site is given to do, lent.
+#[derive(Clone, Copy, Debug)]
+pub enum Given<'a> {
+    /// A request, as [`Input::Submit`].
+    Submit {
+        /// What the transaction does.
+        program: &'a Program,
+        /// What it wants of each site, as `check` answers it for the program.
+        plan: &'a Plan,
+    },
+    /// A message comes.
+    Take {
+        /// The site that sent it.
+        from: SiteId,
+        /// The message.
+        message: &'a Message,
+    },
+    /// Time has passed.
+    Tick,
+}
+
+impl Input {
+    /// The input, lent.
+    pub fn lent(&self) -> Given<'_>
+        ensures { input_in result ≡ input_of self.now }
+    {
+        match self {
+            Input::Submit { program, plan } => Given::Submit { program, plan },
+            Input::Take { from, message } => Given::Take {
+                from: *from,
+                message,
+            },
+            Input::Tick => Given::Tick,
+        }
+    }
 }
 
 /// A message and where it goes.

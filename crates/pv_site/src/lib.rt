@@ -28,7 +28,7 @@ mod ticking;
 pub use crashes::crashes_leave_before_or_after;
 pub use crossing::sites_cross_threads;
 pub use error::{OpenError, ResumeError, StepError};
-pub use input::{Cause, Input, Note, Outgoing, Shown, Step};
+pub use input::{Cause, Given, Input, Note, Outgoing, Shown, Step};
 pub use lists::lists_fail_as_planned;
 pub use opening::{logs_tell_of_records, setup_is_in_range};
 pub use pv_tree::Read;

@@ -8,6 +8,7 @@ ghost use Rattle.pv_protocol.specs.Lock.{is_home};
 ghost use Rattle.pv_protocol.specs.Records.{is_prepared, known};
 ghost use Rattle.pv_protocol.specs.WellFormed.{CanRun};
 ghost use Rattle.pv_site.specs.Asked.{grant_held, grant_taken, is_touched, voting_at, IsIdle, Shows};
+ghost use Rattle.pv_site.specs.Given.{IsGivenFor, input_in};
 ghost use Rattle.pv_site.specs.Inputs.{IsInputFor, IsSpelledFrom};
 ghost use Rattle.pv_site.specs.Opens.{Opens, log_in};
 ghost use Rattle.pv_site.specs.Resumes.{CanResume, Resumes, log_left};
@@ -20,7 +21,7 @@ use crate::opening::{Loaded, load, setup_is_in_range, unopened};
 use crate::parts::SiteParts;
 use crate::recovered::{Advanced, Begun};
 use crate::taking::take;
-use crate::{Input, OpenError, Recovered, ResumeError, Shown, Step, StepError};
+use crate::{Given, Input, OpenError, Recovered, ResumeError, Shown, Step, StepError};
 use pv_ast::Program;
 use pv_base::{Catalog, GrantId, ItemId, SiteId, TxnId};
 use pv_check::{Plan, fits};
@@ -177,10 +178,29 @@ impl<L: Log> Site<L> {
         ensures ready { IsReady L.model self.new }
         ensures spelled { IfOk result (λ step. All (IsSpelledFrom self.old.me) step.sends.items) }
     {
+        self.take(input.lent())
+    }
+
+    /// The site makes a step of the input: it appends the step's record, if there is one, and only then sends and reports. Takes time in
+    /// proportion to the items and outcomes that the input touches, and a tick to all that stands and is named.
+    ///
+    /// A program that is submitted has the plan that `check` answers for it. A message comes from one of the sites, and has a spelling; so
+    /// has each that is sent.
+    ///
+    /// - [`StepError::Fault`]: the log failed at the record, which it holds or doesn't. Nothing is sent. The site is down.
+    /// - [`StepError::Down`]: the site is down, and nothing changes.
+    /// - [`StepError::NoMemory`]: the site is as if the input hadn't come.
+    pub fn take(&mut self, given: Given<'_>) -> Result<Step, StepError>
+        requires ready { IsReady L.model self.old }
+        requires input { IsGivenFor self.old.me self.old.catalog given }
+        ensures step { Steps L.model self.old self.new self.old.running (input_in given) result }
+        ensures ready { IsReady L.model self.new }
+        ensures spelled { IfOk result (λ step. All (IsSpelledFrom self.old.me) step.sends.items) }
+    {
         if self.down {
             return Err(StepError::Down);
         }
-        let made = take(&mut self.log, &mut self.parts, self.alloc, input);
+        let made = take(&mut self.log, &mut self.parts, self.alloc, given);
         match made {
             Ok(step) => Ok(step),
             Err(StepError::Fault) => {

@@ -3,17 +3,17 @@ ghost use Rattle.std.specs.Prelude.{◌≡◌, All, IfOk};
 ghost use Rattle.pv_format.specs.Contents.{greatest_epoch};
 ghost use Rattle.pv_format.specs.Range.{IsEnvelopeInRange};
 ghost use Rattle.pv_protocol.specs.Step.{on_message, step_on};
-ghost use Rattle.pv_site.specs.Inputs.{IsInputFor, IsSpelledFrom};
+ghost use Rattle.pv_site.specs.Given.{IsGivenFor, input_in};
+ghost use Rattle.pv_site.specs.Inputs.{IsSpelledFrom};
 ghost use Rattle.pv_site.specs.OnLog.{AreReady, StepsOnLog};
 ghost use Rattle.pv_site.specs.SiteParts.{here_of, AreSound};
-ghost use Rattle.pv_site.specs.Values.{input_of};
 ghost use Rattle.pv_wire.specs.Values.{message_of};
 
 use crate::committing::take_yes;
 use crate::deciding::take_prepare;
 use crate::learning::take_outcome;
 use crate::parts::SiteParts;
-use crate::{Input, Message, Step, StepError};
+use crate::{Given, Message, Step, StepError};
 use pv_base::SiteId;
 use pv_disk::Log;
 use pv_law_step::{
@@ -26,11 +26,11 @@ pub(crate) fn take<L: Log>(
     log: &mut L,
     parts: &mut SiteParts,
     alloc: Global,
-    input: &Input,
+    given: Given<'_>,
 ) -> Result<Step, StepError>
     requires ready { AreReady L.model log.old parts.old }
-    requires input { IsInputFor parts.old.me.0 parts.old.catalog input.now }
-    ensures step { StepsOnLog L.model log.old log.new parts.old parts.new (step_on (here_of parts.old) (input_of input.now)) result }
+    requires input { IsGivenFor parts.old.me.0 parts.old.catalog given }
+    ensures step { StepsOnLog L.model log.old log.new parts.old parts.new (step_on (here_of parts.old) (input_in given)) result }
     ensures intact { L.model.is_intact log.new }
     ensures sound { AreSound parts.new }
     ensures epoch { parts.new.locks.epoch ≡ parts.old.locks.epoch }
@@ -41,7 +41,7 @@ pub(crate) fn take<L: Log>(
     sends_are_spelled();
     numbers_rise();
     appends_what_it_may();
-    step_on(log, parts, alloc, input)
+    step_on(log, parts, alloc, given)
 }
 
 // The step of the site on the input.
@@ -49,18 +49,18 @@ fn step_on<L: Log>(
     log: &mut L,
     parts: &mut SiteParts,
     alloc: Global,
-    input: &Input,
+    given: Given<'_>,
 ) -> Result<Step, StepError>
     requires ready { AreReady L.model log.old parts.old }
-    requires input { IsInputFor parts.old.me.0 parts.old.catalog input.now }
-    ensures step { StepsOnLog L.model log.old log.new parts.old parts.new (step_on (here_of parts.old) (input_of input.now)) result }
+    requires input { IsGivenFor parts.old.me.0 parts.old.catalog given }
+    ensures step { StepsOnLog L.model log.old log.new parts.old parts.new (step_on (here_of parts.old) (input_in given)) result }
     ensures intact { L.model.is_intact log.new }
 {
     few_inputs_append();
-    match input {
-        Input::Submit { program, plan } => Ok(parts.on_submit(alloc, program, plan)?),
-        Input::Take { from, message } => take_message(log, parts, alloc, *from, message),
-        Input::Tick => Ok(parts.on_tick(alloc)?),
+    match given {
+        Given::Submit { program, plan } => Ok(parts.on_submit(alloc, program, plan)?),
+        Given::Take { from, message } => take_message(log, parts, alloc, from, message),
+        Given::Tick => Ok(parts.on_tick(alloc)?),
     }
 }
 

@@ -15,11 +15,11 @@ use Rattle.pv_protocol.specs.State as model
 use Rattle.pv_protocol.specs.State.{Arm, Running}
 use Rattle.pv_protocol.specs.Step.{site_step}
 use Rattle.pv_site.specs.Answer.{IsAnswer}
-use Rattle.pv_site.specs.Inputs.{IsInputFor, IsSpelledFrom}
+use Rattle.pv_site.specs.Given.{IsGivenFor, input_in}
+use Rattle.pv_site.specs.Inputs.{IsSpelledFrom}
 use Rattle.pv_site.specs.Recovered.{Remains}
 use Rattle.pv_site.specs.SiteState.{SiteState, setup_of}
-use Rattle.pv_site.specs.Values.{input_of}
-use Rattle.pv_site.specs.declared.input.Input.{Input}
+use Rattle.pv_site.specs.declared.input.Given.{Given}
 use Rattle.pv_world.specs.Disks.{Spells}
 use Rattle.pv_world.specs.Stands.{StandsForSite}
 use Rattle.pv_world.specs.declared.cell.Cell.{Cell}
@@ -76,12 +76,12 @@ site_after_start catalog n is None = let attempt = start_attempt catalog n is in
 site_after_start catalog n is (Some running) = is
 
 -- The cell is the site of this number, and the input is for it. It can read its records anew, now and after the input.
-pub record TakesInput (catalog : Declared) (n : ℕ) (cell : Cell) (input : Input) : Type 0 where
+pub record TakesInput (catalog : Declared) (n : ℕ) (cell : Cell) (input : Given) : Type 0 where
   pub is : model.Site
   pub stands : StandsForSite catalog n cell is
-  pub fits : IsInputFor n catalog input
+  pub fits : IsGivenFor n catalog input
   pub replayable : CanBeReplayed (setup_of catalog) n is.records
-  pub after : CanBeReplayed (setup_of catalog) n (site_after_input catalog n is is.running (input_of input)).records
+  pub after : CanBeReplayed (setup_of catalog) n (site_after_input catalog n is is.running (input_in input)).records
 
 -- The cell is some site, whose log is within its limit, and it can read its records anew.
 pub record CanPack (cell : Cell) : Type 0 where

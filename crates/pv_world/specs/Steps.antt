@@ -13,10 +13,9 @@ use Rattle.pv_protocol.specs.World.{site_at}
 use Rattle.pv_protocol.specs.WorldStep.{Transition, ended}
 use Rattle.pv_script.specs.LineView.{line_of}
 use Rattle.pv_script.specs.declared.line.Line.{Line}
-use Rattle.pv_site.specs.Inputs.{IsInputFor}
+use Rattle.pv_site.specs.Given.{IsGivenFor, input_in}
 use Rattle.pv_site.specs.SiteState.{setup_of}
-use Rattle.pv_site.specs.Values.{input_of}
-use Rattle.pv_site.specs.declared.input.Input.{Input}
+use Rattle.pv_site.specs.declared.input.Given.{Given}
 use Rattle.pv_world.specs.Stands.{Stands, StandsFor}
 use Rattle.pv_world.specs.declared.error.WorldError.{WorldError}
 use Rattle.pv_world.specs.declared.error.WorldError.TheVariants.{SentLimit, NoMemory}
@@ -27,13 +26,13 @@ abbrev pub lines_of : List Line → List lines.Line
 lines_of lines = map line_of lines
 
 -- The world stands for some world, and the input can be given to this site of it. Each site can read its records anew, now and after that.
-pub record CanGive (world : World) (n : ℕ) (input : Input) : Type 0 where
+pub record CanGive (world : World) (n : ℕ) (input : Given) : Type 0 where
   pub is : model.World
   pub stands : Stands world is
   pub site : n < world.catalog.sites
-  pub fits : IsInputFor n world.catalog input
+  pub fits : IsGivenFor n world.catalog input
   pub replayable : AreReplayable (setup_of world.catalog) is
-  pub after : AreReplayable (setup_of world.catalog) (ended (given (setup_of world.catalog) is n (input_of input) (site_at is n).running)).1
+  pub after : AreReplayable (setup_of world.catalog) (ended (given (setup_of world.catalog) is n (input_in input) (site_at is n).running)).1
 
 -- the world with this transaction at the end of its order, if there is one
 abbrev pub with_placed : model.World → Option Placed → model.World

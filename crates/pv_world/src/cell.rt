@@ -12,7 +12,7 @@ ghost use Rattle.pv_protocol.specs.State as model;
 ghost use Rattle.pv_protocol.specs.World.{first_site};
 ghost use Rattle.pv_site.specs.Asked.{grant_held, grant_taken, voting_at};
 ghost use Rattle.pv_site.specs.Recovered.{Remains};
-ghost use Rattle.pv_site.specs.Values.{input_of};
+ghost use Rattle.pv_site.specs.Given.{input_in};
 ghost use Rattle.pv_world.specs.Cells.{CanFall, CanPack, CanStart, HasFallen, HasPacked, HasStarted, HasStepped, HasStopped, IsUpOver, TakesInput};
 ghost use Rattle.pv_world.specs.Disks.{IsLogOfSite};
 ghost use Rattle.pv_world.specs.Readings.{OwnsItem, reading_in};
@@ -23,7 +23,7 @@ use crate::restart::{fallen, first_started, started};
 use pv_base::{Catalog, GrantId, ItemId, Mode, NoMemory, SiteId, TxnId};
 use pv_ckpt::{CkptError, CkptLog, armed_logs};
 use pv_disk::MemDisk;
-use pv_site::{Input, Recovered, Shown, Site, Step, StepError};
+use pv_site::{Given, Recovered, Shown, Site, Step, StepError};
 use std::alloc::Global;
 use std::mem::replace;
 
@@ -101,18 +101,18 @@ impl Cell {
         alloc: Global,
         site: SiteId,
         catalog: &Catalog,
-        input: &Input,
+        given: Given<'_>,
     ) -> Result<Stepped, NoMemory>
-        requires { TakesInput catalog.now site.0 self.old input.now }
+        requires { TakesInput catalog.now site.0 self.old given }
         ensures { (is : model.Site) → StandsForSite catalog.now site.0 self.old is →
-            IfOk result (HasStepped catalog.now site.0 self.old self.new is is.running (input_of input.now)) }
+            IfOk result (HasStepped catalog.now site.0 self.old self.new is is.running (input_in given)) }
     {
         armed_logs();
         let Cell::Up(up) = self else {
             return Ok(Stepped::Down);
         };
         let length = up.length();
-        match up.step(input) {
+        match up.take(given) {
             Ok(step) => Ok(Stepped::Made(step)),
             Err(StepError::Fault) => Ok(Stepped::Broke {
                 stops: self.fall(length, alloc)?,

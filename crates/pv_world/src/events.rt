@@ -25,7 +25,7 @@ use pv_base::SiteId;
 use pv_check::Plan;
 use pv_law_programs::one_plan;
 use pv_script::{Event, Line};
-use pv_site::Input;
+use pv_site::Given;
 
 impl World {
     // Makes of the world what the event makes of it; what it prints is put after these lines.
@@ -64,7 +64,7 @@ impl World {
                 self.mail.drop_to(*site);
                 Ok(())
             }
-            Event::Tick(site) => self.give(*site, &Input::Tick, lines),
+            Event::Tick(site) => self.give(*site, Given::Tick, lines),
             Event::Stop(site) => self.stop(*site, lines),
             Event::Start(site) => self.start(*site, lines),
             Event::Sent => Ok(self.push_sent(lines)?),
@@ -106,11 +106,7 @@ impl World {
     {
         reached_worlds_are_lawful();
         one_plan();
-        let input = Input::Submit {
-            program: program.copy(self.alloc)?,
-            plan: plan.copy(self.alloc)?,
-        };
-        self.give(site, &input, lines)
+        self.give(site, Given::Submit { program, plan }, lines)
     }
 
     // The message of this number is done, and its receiver takes it.
@@ -125,11 +121,11 @@ impl World {
         };
         let envelope = envelope(self.alloc, bytes)?;
         self.mail.finish(number);
-        let input = Input::Take {
+        let given = Given::Take {
             from: envelope.from,
-            message: envelope.message,
+            message: &envelope.message,
         };
-        self.give(envelope.to, &input, lines)
+        self.give(envelope.to, given, lines)
     }
 
     // The fresh messages are delivered, the least first, until none is left or so many were delivered.

@@ -9,7 +9,8 @@ ghost use Rattle.pv_protocol.specs.World.{from_site, site_at, with_sent};
 ghost use Rattle.pv_site.specs.Answer.{IsAnswer};
 ghost use Rattle.pv_site.specs.Inputs.{IsSpelledFrom};
 ghost use Rattle.pv_site.specs.SiteState.{setup_of};
-ghost use Rattle.pv_site.specs.Values.{input_of, outgoing_of};
+ghost use Rattle.pv_site.specs.Given.{input_in};
+ghost use Rattle.pv_site.specs.Values.{outgoing_of};
 ghost use Rattle.pv_world.specs.Places.{IsPlacedRight};
 ghost use Rattle.pv_world.specs.Stands as world;
 ghost use Rattle.pv_world.specs.Steps.{Becomes, CanGive, Comes, IsPlaced, with_placed};
@@ -21,7 +22,7 @@ use crate::order::at_lock_point;
 use crate::{World, WorldError};
 use pv_base::{NoMemory, SiteId, TxnId};
 use pv_script::Line;
-use pv_site::{Input, Outgoing, Step};
+use pv_site::{Given, Outgoing, Step};
 use pv_wire::{Envelope, encode_in};
 
 impl World {
@@ -29,14 +30,14 @@ impl World {
     pub(crate) fn give(
         &mut self,
         site: SiteId,
-        input: &Input,
+        given: Given<'_>,
         lines: &mut Vec<Line>,
     ) -> Result<(), WorldError>
-        requires { CanGive self.old site.0 input.now }
+        requires { CanGive self.old site.0 given }
         ensures { (is : model.World) → world.Stands self.old is → IsOrderly (setup_of self.old.catalog) is →
-            Comes self.old self.new lines.old.items lines.new.items (given (setup_of self.old.catalog) is site.0 (input_of input.now) (site_at is site.0).running) result }
+            Comes self.old self.new lines.old.items lines.new.items (given (setup_of self.old.catalog) is site.0 (input_in given) (site_at is site.0).running) result }
     {
-        match self.cells[site.0 as usize].step(self.alloc, site, &self.catalog, input)? {
+        match self.cells[site.0 as usize].step(self.alloc, site, &self.catalog, given)? {
             Stepped::Made(step) => self.follow(site, step, lines),
             Stepped::Broke { stops } => Ok(lines.push(broken_line(site, stops))?),
             Stepped::Down => Ok(lines.push(Line::Down(site))?),
