@@ -1,6 +1,7 @@
 -- What a step is given is in range, and what it leaves is sound.
 use Rattle.std.proofs.Common.{◌≡◌, refl, sym, ap, subst, ◌∙◌, ℕ, ◌<◌, List, [], ◌∷◌, ◌++◌, map, Option, Result, Ok, Err}
 use Rattle.std.specs.Prelude.{All, IfOk, option_to_list}
+use Rattle.std.specs.Borrow.{Bor}
 use Rattle.std.proofs.lemmas.List.{append-nil}
 use Rattle.std.specs.List.{AllPairs}
 use Rattle.std.proofs.lemmas.List.Elements.{All-contains}
@@ -25,14 +26,15 @@ use Rattle.pv_protocol.specs.Sound.{IsHereInRange, IsInputInRange}
 use Rattle.pv_protocol.specs.State as model
 use Rattle.pv_protocol.specs.Step.{after_step, records_after}
 use Rattle.pv_site.specs.Answer.{IsAnswer}
-use Rattle.pv_site.specs.Inputs.{IsInputFor, IsSpelledFrom}
+use Rattle.pv_site.specs.Given.{IsGivenFor, input_in}
+use Rattle.pv_site.specs.Inputs.{IsSpelledFrom}
 use Rattle.pv_site.specs.OnLog.{StepsOnLog}
 use Rattle.pv_site.specs.declared.error.StepError.{StepError}
 use Rattle.pv_site.specs.declared.error.StepError.TheVariants.{Fault, Down, NoMemory}
 use Rattle.pv_site.specs.SiteParts.{here_of, AreKept, AreSound, HaveStepped}
-use Rattle.pv_site.specs.Values.{input_of, outgoing_of}
-use Rattle.pv_site.specs.declared.input.Input.{Input}
-use Rattle.pv_site.specs.declared.input.Input.TheVariants.{Submit, Take, Tick}
+use Rattle.pv_site.specs.Values.{outgoing_of}
+use Rattle.pv_site.specs.declared.input.Given.{Given}
+use Rattle.pv_site.specs.declared.input.Given.TheVariants.{Submit, Take, Tick}
 use Rattle.pv_site.specs.declared.input.Step.{Step}
 use Rattle.pv_site.specs.declared.parts.SiteParts.{SiteParts}
 use Rattle.pv_wire.specs.Values.{message_of}
@@ -55,14 +57,14 @@ lock-ascending from to message range txn wants is =
     pairs-unmap (λ (item later : ℕ). item < later) (λ (want : Want). want.item) wants.items at.body.items.ascending
 
 -- A message that is for the site is in range.
-pub message-in-range : (me : ℕ) (catalog : Declared) (input : Input) → IsInputFor me catalog input → (from : SiteId) (message : Message) → input ≡ Take from message
-    → IsEnvelopeInRange (record { from = from.0; to = me; message = message_of message })
+pub message-in-range : (me : ℕ) (catalog : Declared) (input : Given) → IsGivenFor me catalog input → (from : SiteId) (message : Bor Message) → input ≡ Take from message
+    → IsEnvelopeInRange (record { from = from.0; to = me; message = message_of message.now })
 message-in-range me catalog input for from message is =
-    let at : IsInputFor me catalog (Take from message) = subst (IsInputFor me catalog) is for in
+    let at : IsGivenFor me catalog (Take from message) = subst (IsGivenFor me catalog) is for in
     envelope-from _ at.1.0 at.1.1
 
 -- So is every input.
-pub input-in-range : (here : Here) (input : Input) → IsInputFor here.me here.setup.catalog input → IsInputInRange MAX_SITES here (input_of input)
+pub input-in-range : (here : Here) (input : Given) → IsGivenFor here.me here.setup.catalog input → IsInputInRange MAX_SITES here (input_in input)
 input-in-range here (Submit program plan) for = for.0
 input-in-range here (Take from message) for = envelope-from _ for.1.0 for.1.1
 input-in-range here Tick for = tt

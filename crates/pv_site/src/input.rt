@@ -1,6 +1,8 @@
 // What a site is given to do, and what it answers.
-ghost use Rattle.std.specs.Prelude.{◌≡◌};
-ghost use Rattle.pv_site.specs.Given.{input_in};
+ghost use Rattle.std.specs.Prelude.{◌≡◌, ℕ};
+ghost use Rattle.pv_base.specs.Catalog.{Declared};
+ghost use Rattle.pv_site.specs.Given.{IsGivenFor, input_in};
+ghost use Rattle.pv_site.specs.Inputs.{IsInputFor};
 ghost use Rattle.pv_site.specs.Values.{input_of};
 
 use pv_ast::{Program, Reply};
@@ -54,7 +56,8 @@ pub enum Given<'a> {
 impl Input {
     /// The input, lent.
     pub fn lent(&self) -> Given<'_>
-        ensures { input_in result ≡ input_of self.now }
+        ensures input { input_in result ≡ input_of self.now }
+        ensures fits { (me : ℕ) (catalog : Declared) → IsInputFor me catalog self.now → IsGivenFor me catalog result }
     {
         match self {
             Input::Submit { program, plan } => Given::Submit { program, plan },

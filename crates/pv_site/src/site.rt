@@ -190,17 +190,17 @@ impl<L: Log> Site<L> {
     /// - [`StepError::Fault`]: the log failed at the record, which it holds or doesn't. Nothing is sent. The site is down.
     /// - [`StepError::Down`]: the site is down, and nothing changes.
     /// - [`StepError::NoMemory`]: the site is as if the input hadn't come.
-    pub fn take(&mut self, given: Given<'_>) -> Result<Step, StepError>
+    pub fn take(&mut self, input: Given<'_>) -> Result<Step, StepError>
         requires ready { IsReady L.model self.old }
-        requires input { IsGivenFor self.old.me self.old.catalog given }
-        ensures step { Steps L.model self.old self.new self.old.running (input_in given) result }
+        requires input { IsGivenFor self.old.me self.old.catalog input }
+        ensures step { Steps L.model self.old self.new self.old.running (input_in input) result }
         ensures ready { IsReady L.model self.new }
         ensures spelled { IfOk result (λ step. All (IsSpelledFrom self.old.me) step.sends.items) }
     {
         if self.down {
             return Err(StepError::Down);
         }
-        let made = take(&mut self.log, &mut self.parts, self.alloc, given);
+        let made = take(&mut self.log, &mut self.parts, self.alloc, input);
         match made {
             Ok(step) => Ok(step),
             Err(StepError::Fault) => {

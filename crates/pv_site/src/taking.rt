@@ -26,11 +26,11 @@ pub(crate) fn take<L: Log>(
     log: &mut L,
     parts: &mut SiteParts,
     alloc: Global,
-    given: Given<'_>,
+    input: Given<'_>,
 ) -> Result<Step, StepError>
     requires ready { AreReady L.model log.old parts.old }
-    requires input { IsGivenFor parts.old.me.0 parts.old.catalog given }
-    ensures step { StepsOnLog L.model log.old log.new parts.old parts.new (step_on (here_of parts.old) (input_in given)) result }
+    requires input { IsGivenFor parts.old.me.0 parts.old.catalog input }
+    ensures step { StepsOnLog L.model log.old log.new parts.old parts.new (step_on (here_of parts.old) (input_in input)) result }
     ensures intact { L.model.is_intact log.new }
     ensures sound { AreSound parts.new }
     ensures epoch { parts.new.locks.epoch ≡ parts.old.locks.epoch }
@@ -41,7 +41,7 @@ pub(crate) fn take<L: Log>(
     sends_are_spelled();
     numbers_rise();
     appends_what_it_may();
-    step_on(log, parts, alloc, given)
+    step_on(log, parts, alloc, input)
 }
 
 // The step of the site on the input.
@@ -49,15 +49,15 @@ fn step_on<L: Log>(
     log: &mut L,
     parts: &mut SiteParts,
     alloc: Global,
-    given: Given<'_>,
+    input: Given<'_>,
 ) -> Result<Step, StepError>
     requires ready { AreReady L.model log.old parts.old }
-    requires input { IsGivenFor parts.old.me.0 parts.old.catalog given }
-    ensures step { StepsOnLog L.model log.old log.new parts.old parts.new (step_on (here_of parts.old) (input_in given)) result }
+    requires input { IsGivenFor parts.old.me.0 parts.old.catalog input }
+    ensures step { StepsOnLog L.model log.old log.new parts.old parts.new (step_on (here_of parts.old) (input_in input)) result }
     ensures intact { L.model.is_intact log.new }
 {
     few_inputs_append();
-    match given {
+    match input {
         Given::Submit { program, plan } => Ok(parts.on_submit(alloc, program, plan)?),
         Given::Take { from, message } => take_message(log, parts, alloc, from, message),
         Given::Tick => Ok(parts.on_tick(alloc)?),

@@ -18,8 +18,8 @@ use Rattle.pv_protocol.specs.WorldStep.{ended}
 use Rattle.pv_script.specs.LineView.{line_of}
 use Rattle.pv_script.specs.declared.line.Line.{Line}
 use Rattle.pv_site.specs.SiteState.{setup_of}
-use Rattle.pv_site.specs.Values.{input_of}
-use Rattle.pv_site.specs.declared.input.Input.{Input}
+use Rattle.pv_site.specs.Given.{input_in}
+use Rattle.pv_site.specs.declared.input.Given.{Given}
 use Rattle.pv_world.proofs.GiveLemmas.{broken-off, comes-by, site-given, site-opened}
 use Rattle.pv_world.proofs.StandLemmas.{site-stands, stands-with-site}
 use Rattle.pv_world.proofs.StartLemmas.{halted-down, halted-up, opened-done, opened-down, opened-up, quiet, with-own}
@@ -212,7 +212,7 @@ module _ (old : World) (is : model.World) (stands : Stands old is) (n : ℕ) (wi
       by (Some running) memory some = up-packed-ends new running memory answer some
 
 -- A site that is given an input takes it.
-pub own-takes : (world : World) (n : ℕ) (input : Input) → (can : CanGive world n input) → (cell : Cell) → cell ≡ get_or world.cells.items n cell
+pub own-takes : (world : World) (n : ℕ) (input : Given) → (can : CanGive world n input) → (cell : Cell) → cell ≡ get_or world.cells.items n cell
     → TakesInput world.catalog n cell input
 own-takes world n input can cell at = record {
   is = site_at can.is n;
@@ -221,5 +221,5 @@ own-takes world n input can cell at = record {
   replayable = can.replayable n can.site;
   after =
       subst (λ (site : state.Site). CanBeReplayed (setup_of world.catalog) n site.records)
-      (site-given world.catalog can.is n (subst (λ (count : ℕ). n < count) (sym can.stands.count) can.site) (site_at can.is n).running (input_of input)) (can.after n can.site);
+      (site-given world.catalog can.is n (subst (λ (count : ℕ). n < count) (sym can.stands.count) can.site) (site_at can.is n).running (input_in input)) (can.after n can.site);
 }

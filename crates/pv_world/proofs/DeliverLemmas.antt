@@ -2,6 +2,7 @@
 use Rattle.std.proofs.Common.{◌≡◌, ℕ, ◌<◌, List, [], ◌∷◌, Option, Some, None, refl, sym, ap, subst, ◌∙◌}
 use Rattle.std.specs.Prelude.{Result, Ok, Err, slice_get}
 use Rattle.std.specs.Option.{option_map}
+use Rattle.std.specs.Borrow.{Bor}
 use Rattle.pv_base.specs.Catalog.{Declared}
 use Rattle.pv_format.specs.Message.{Envelope}
 use Rattle.pv_format.specs.MessageSpelling.{SpellsEnvelope}
@@ -21,9 +22,10 @@ use Rattle.pv_world.proofs.MailWorld.{carried-at, none-carried}
 use Rattle.pv_world.specs.Carry.{Carry}
 use Rattle.pv_world.specs.Mail.{Posted}
 use Rattle.pv_site.specs.SiteState.{setup_of}
-use Rattle.pv_site.specs.declared.input.Input.TheVariants.{Take}
+use Rattle.pv_site.specs.declared.input.Given.TheVariants.{Take}
 use Rattle.pv_wire.specs.Values.{envelope_of, message_of}
 use Rattle.pv_wire.specs.declared.message.Envelope as wire
+use Rattle.pv_wire.specs.declared.message.Message.{Message}
 use Rattle.pv_world.specs.Reached.{IsLawful}
 use Rattle.pv_world.specs.Stands.{Stands, StandsFor}
 use Rattle.pv_world.specs.Steps.{Becomes, CanGive, Comes, IsSameBeside}
@@ -54,18 +56,25 @@ module _ (old done : World) (is : model.World) (n : ℕ) (lawful : IsLawful (set
 
   -- The receiver can take it.
   pub can-take : AreReplayable (setup_of old.catalog) (ended (delivered (setup_of old.catalog) is n (slice_get is.sent n))).1
-      → CanGive done envelope.to.0 (Take envelope.from envelope.message)
-  can-take after = record {
+      → (message : Bor Message) → message.now ≡ envelope.message → CanGive done envelope.to.0 (Take envelope.from message)
+  can-take after message same-message = record {
     is = with_done is n;
     stands = stands;
     site = subst (λ (c : Declared). envelope.to.0 < c.sites) (sym same.catalog) within.to;
-    fits = (subst (λ (c : Declared). envelope.from.0 < c.sites) (sym same.catalog) within.from, (bytes, spells));
+    fits = (
+      subst (λ (c : Declared). envelope.from.0 < c.sites) (sym same.catalog) within.from,
+      (bytes, subst (λ (m : Message). SpellsEnvelope (record { from = envelope.from.0; to = envelope.to.0; message = message_of m }) bytes) (sym same-message) spells),
+    );
     replayable = subst (λ (c : Declared). AreReplayable (setup_of c) (with_done is n)) (sym same.catalog) lawful.replayable;
     after =
         subst (λ (c : Declared).
-        AreReplayable (setup_of c) (ended (given (setup_of c) (with_done is n) envelope.to.0 (receive envelope.from.0 (message_of envelope.message)) (site_at is envelope.to.0).running)).1)
+        AreReplayable (setup_of c) (ended (given (setup_of c) (with_done is n) envelope.to.0 (receive envelope.from.0 (message_of message.now)) (site_at is envelope.to.0).running)).1)
         (sym same.catalog)
-        (subst (λ (found : Option Envelope). AreReplayable (setup_of old.catalog) (ended (delivered (setup_of old.catalog) is n found)).1) there after);
+        (subst (λ (m : Message).
+        AreReplayable (setup_of old.catalog)
+        (ended (given (setup_of old.catalog) (with_done is n) envelope.to.0 (receive envelope.from.0 (message_of m)) (site_at is envelope.to.0).running)).1)
+        (sym same-message)
+        (subst (λ (found : Option Envelope). AreReplayable (setup_of old.catalog) (ended (delivered (setup_of old.catalog) is n found)).1) there after));
   }
 
   -- What the receiver makes of it is what the delivery comes to.

@@ -101,18 +101,18 @@ impl Cell {
         alloc: Global,
         site: SiteId,
         catalog: &Catalog,
-        given: Given<'_>,
+        input: Given<'_>,
     ) -> Result<Stepped, NoMemory>
-        requires { TakesInput catalog.now site.0 self.old given }
+        requires { TakesInput catalog.now site.0 self.old input }
         ensures { (is : model.Site) → StandsForSite catalog.now site.0 self.old is →
-            IfOk result (HasStepped catalog.now site.0 self.old self.new is is.running (input_in given)) }
+            IfOk result (HasStepped catalog.now site.0 self.old self.new is is.running (input_in input)) }
     {
         armed_logs();
         let Cell::Up(up) = self else {
             return Ok(Stepped::Down);
         };
         let length = up.length();
-        match up.take(given) {
+        match up.take(input) {
             Ok(step) => Ok(Stepped::Made(step)),
             Err(StepError::Fault) => Ok(Stepped::Broke {
                 stops: self.fall(length, alloc)?,

@@ -121,11 +121,11 @@ impl World {
         };
         let envelope = envelope(self.alloc, bytes)?;
         self.mail.finish(number);
-        let given = Given::Take {
+        let input = Given::Take {
             from: envelope.from,
             message: &envelope.message,
         };
-        self.give(envelope.to, given, lines)
+        self.give(envelope.to, input, lines)
     }
 
     // The fresh messages are delivered, the least first, until none is left or so many were delivered.

@@ -30,14 +30,14 @@ impl World {
     pub(crate) fn give(
         &mut self,
         site: SiteId,
-        given: Given<'_>,
+        input: Given<'_>,
         lines: &mut Vec<Line>,
     ) -> Result<(), WorldError>
-        requires { CanGive self.old site.0 given }
+        requires { CanGive self.old site.0 input }
         ensures { (is : model.World) → world.Stands self.old is → IsOrderly (setup_of self.old.catalog) is →
-            Comes self.old self.new lines.old.items lines.new.items (given (setup_of self.old.catalog) is site.0 (input_in given) (site_at is site.0).running) result }
+            Comes self.old self.new lines.old.items lines.new.items (given (setup_of self.old.catalog) is site.0 (input_in input) (site_at is site.0).running) result }
     {
-        match self.cells[site.0 as usize].step(self.alloc, site, &self.catalog, given)? {
+        match self.cells[site.0 as usize].step(self.alloc, site, &self.catalog, input)? {
             Stepped::Made(step) => self.follow(site, step, lines),
             Stepped::Broke { stops } => Ok(lines.push(broken_line(site, stops))?),
             Stepped::Down => Ok(lines.push(Line::Down(site))?),

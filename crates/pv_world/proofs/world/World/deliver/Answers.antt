@@ -35,7 +35,7 @@ give-requires c =
     let same = c.in_ok-envelope.ensures.one message.envelope message.spells in
     can-take world (record world { mail = c.finish.new.self }) is c.args.number lawful (record { catalog = refl; limit = ap (λ mail. mail.limit) c.finish.ensures })
     (stands-done world is stands.stands (record world { mail = c.finish.new.self }) refl refl refl c.args.number c.finish.ensures)
-    c.in_ok-envelope.envelope c.in-Some.bytes.now (message.there ∙ ap Some (sym same)) c.in_ok-envelope.ensures.spelled after.replayable
+    c.in_ok-envelope.envelope c.in-Some.bytes.now (message.there ∙ ap Some (sym same)) c.in_ok-envelope.ensures.spelled after.replayable _ refl
 
 pub returns : goal.returns
 returns c is stands =

@@ -10,27 +10,24 @@ use Rattle.pv_world.proofs.EventLemmas.{reached-submitted}
 use Rattle.pv_world.specs.Steps.{Comes}
 use Rattle.pv_world.proofs.world.World.submit.Goals as goal
 
--- The copies are of the request, and its plan is the one that its program has.
+-- The plan of the request is the one that its program has.
 pub give-requires : goal.give-requires
 give-requires c =
     let catalog = c.args.self.now.catalog in
     let is = c.requires.stands.0 in
     let stands = c.requires.stands.1 in
     let laws = c.reached_worlds_are_lawful.ensures (setup_of catalog) in
-    let runs = subst (CanRun catalog) (sym c.in_ok-copy.ensures) c.requires.runs in
     record {
       is = is;
       stands = stands.stands;
       site = c.requires.site;
-      fits = (runs, c.in_ok-copy-2.ensures ∙ (c.one_plan.ensures _ _ _ c.requires.plan ∙ ap (λ program. plan_of program catalog.items) (sym c.in_ok-copy.ensures)));
+      fits = (c.requires.runs, c.one_plan.ensures _ _ _ c.requires.plan);
       replayable = (laws is stands.range stands.reached).replayable;
-      after = (laws _ stands.range (reached-submitted (setup_of catalog) is stands.reached c.args.site.0 _ c.requires.site runs)).replayable;
+      after = (laws _ stands.range (reached-submitted (setup_of catalog) is stands.reached c.args.site.0 _ c.requires.site c.requires.runs)).replayable;
     }
 
 pub returns : goal.returns
 returns c is stands =
     let world = c.args.self.now in
     let lawful = c.reached_worlds_are_lawful.ensures _ is stands.range stands.reached in
-    subst (λ program. Comes world c.give.new.self c.args.lines.now.items c.give.new.lines.items
-    (given (setup_of world.catalog) is c.args.site.0 (submit program) (site_at is c.args.site.0).running) c.give.result) c.in_ok-copy.ensures
-    (c.give.ensures is stands.stands (orderly world is stands lawful))
+    c.give.ensures is stands.stands (orderly world is stands lawful)

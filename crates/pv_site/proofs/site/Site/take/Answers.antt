@@ -1,7 +1,7 @@
 use Rattle.std.proofs.Common.{sym, subst}
 use Rattle.std.specs.Prelude.{All}
 use Rattle.pv_site.proofs.SiteLemmas.{ready-after}
-use Rattle.pv_site.proofs.site.Site.step.Goals as goal
+use Rattle.pv_site.proofs.site.Site.take.Goals as goal
 use Rattle.pv_site.specs.Inputs.{IsSpelledFrom}
 use Rattle.pv_site.specs.SiteState.{SiteState}
 use Rattle.pv_site.specs.Steps.{IsReady}
