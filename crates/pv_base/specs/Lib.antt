@@ -12,4 +12,5 @@ pub mod Polyvalue
 pub mod ReplyExact
 pub mod Txn
 pub mod TxnCode
+pub mod TxnWord
 pub mod Want

@@ -1,17 +1,19 @@
 // Sites and transactions, and how a transaction is printed.
 ghost use Rattle.std.specs.Prelude.{◌≡◌, ◌++◌, length, take, IfOk, OnOk, OnErr};
 ghost use Rattle.pv_base.specs.Txn.{txn_text};
+ghost use Rattle.pv_base.specs.TxnWord.{word_of};
 
 use crate::NoMemory;
 use itoa::Buffer;
 use std::alloc::Global;
+use std::hash::{Hash, Hasher};
 
 /// A site, numbered from 0. A database has 1 to 16.
 #[derive(Clone, Copy, Debug, PartialEq, Eq, PartialOrd, Ord, Hash)]
 pub struct SiteId(pub u8);
 
 /// A transaction. Transactions are ordered by these three.
-#[derive(Clone, Copy, Debug, PartialEq, Eq, PartialOrd, Ord, Hash)]
+#[derive(Clone, Copy, Debug, PartialEq, Eq, PartialOrd, Ord)]
 pub struct TxnId {
     /// The site that coordinates it.
     pub site: SiteId,
@@ -19,6 +21,33 @@ pub struct TxnId {
     pub epoch: u32,
     /// The number that the site gave it in that epoch, from 0.
     pub number: u32,
+}
+
+// Transactions are looked up at each step, so that one is hashed as one word, and not part by part.
+impl Hash for TxnId {
+    ghost use Rattle.std.specs.Cmp.Rules.{hashing};
+    ghost use Rattle.std.specs.Hash as fed;
+    ghost use Rattle.std.proofs.Common.{rules};
+    ghost use Rattle.pv_base.specs.TxnWord.{word_of};
+
+    ghost hash_input = { λ txn. fed.u64 (word_of txn) };
+
+    ghost respects_eq = { Prim.search (hashing, rules) };
+
+    fn hash<H: Hasher>(&self, state: &mut H) {
+        state.write_u64(word_of(*self));
+    }
+}
+
+// A word that is the same for no two transactions of the first 2^24 epochs.
+fn word_of(txn: TxnId) -> u64
+    ensures { result ≡ word_of txn }
+{
+    let front = txn
+        .epoch
+        .wrapping_mul(256)
+        .wrapping_add(u32::from(txn.site.0));
+    u64::from(front) * 0x1_0000_0000 + u64::from(txn.number)
 }
 
 /// The transaction as `site.epoch.number`, as in `0.1.0`.
