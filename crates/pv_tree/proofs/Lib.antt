@@ -1,10 +1,12 @@
 pub mod AddedNames
 pub mod AfterLemmas
+pub mod ChoosingLemmas
 pub mod ChosenLemmas
 pub mod KeptLemmas
 pub mod MeaningLemmas
 pub mod NotedLemmas
 pub mod PolyLemmas
+pub mod ReadLemmas
 pub mod RootLemmas
 pub mod SameLemmas
 pub mod SettleLemmas

@@ -3,7 +3,7 @@ use Rattle.std.proofs.Common.{◌≡◌, ℕ, ◌+◌, ◌-◌, ◌<◌, List, [
 use Rattle.pv_base.specs.Polyvalue.{Case, IsCanonical, sure, tested}
 use Rattle.pv_base.proofs.Basics.{heads}
 use Rattle.pv_cases.proofs.CaseCounts.{length-tested, some_case}
-use Rattle.pv_tree.specs.HeldCases.{IsLast}
+use Rattle.pv_tree.specs.Last.{IsLast}
 use Rattle.pv_tree.specs.Meanings.{cases_at}
 
 module _ {V : Type 0} where

@@ -1,4 +1,6 @@
-pub mod HeldCases
+pub mod Choosing
+pub mod Held
+pub mod Last
 pub mod Meanings
 pub mod Nodes
 pub mod Outcomes

@@ -1,8 +1,10 @@
 -- What nodes stand for, by their numbers: the cases of each.
-use Rattle.std.specs.Prelude.{◌≡◌, ◌≤◌, ◌<◌, ◌⊎◌, ℕ, List, [], length, get_or, IsTrue}
+use Rattle.std.specs.Prelude.{◌≡◌, ◌≤◌, ◌<◌, ◌⊎◌, ◌++◌, ℕ, List, [], length, get_or, IsTrue}
 use Rattle.std.specs.List.{Contains}
+use Rattle.pv_base.specs.declared.literal.Literal.{Literal}
 use Rattle.pv_base.specs.declared.txn.TxnId.{TxnId}
 use Rattle.pv_base.specs.Polyvalue.{Case, names, AreValues, IsCanonical, IsChoice}
+use Rattle.pv_cases.specs.CasesAt.{under_all}
 
 module _ {V : Type 0} where
   -- the cases of the node with this number
@@ -14,10 +16,11 @@ module _ {V : Type 0} where
     pub there : number < length meanings
     pub is : cases_at meanings number ≡ cases
 
-  -- There is a node with this number.
-  pub record IsMade (meanings : List (List (Case V))) (number : ℕ) : Type 0 where
+  -- The first cases are those of the node with this number, each behind the literals of the way, and the others come behind them.
+  pub record IsRead (way : List Literal) (cases : List (Case V)) (meanings : List (List (Case V))) (number : ℕ) (rest : List (Case V)) : Type 0 where
     pub there : number < length meanings
     pub canonical : IsCanonical (cases_at meanings number)
+    pub is : cases ≡ under_all way (cases_at meanings number) ++ rest
 
   -- Every node that was there is there, and has its cases.
   pub record Keeps (old new : List (List (Case V))) : Type 0 where

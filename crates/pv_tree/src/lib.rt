@@ -1,6 +1,7 @@
 //! Polyvalues: values that depend on the outcomes of named transactions, as decision trees in lists of nodes, beside their canonical cases.
 #![tactic(auto)]
 
+mod branches;
 mod choice;
 mod laws;
 mod names;

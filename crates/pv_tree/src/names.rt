@@ -1,15 +1,28 @@
 // The transactions that nodes name.
-ghost use Rattle.std.specs.Prelude.{◌≡◌, ◌<◌, ◌⊎◌, ℕ, true, false, length, get_or, OnOk};
+ghost use Rattle.std.specs.Prelude.{◌≡◌, ◌<◌, ◌⊎◌, ℕ, true, false, length, get_or, IfOk, OnOk};
 ghost use Rattle.pv_base.specs.Assignment.{is_same_txn};
-ghost use Rattle.pv_base.specs.Polyvalue.{names};
+ghost use Rattle.pv_base.specs.Polyvalue.{names, AreNames};
 ghost use Rattle.pv_cases.specs.Names.{Adds};
 ghost use Rattle.pv_tree.specs.Meanings.{cases_at};
 ghost use Rattle.pv_tree.specs.Settling.{AreSeen};
 
 use crate::nodes::{Node, Nodes};
 use pv_base::{Exact, NoMemory, TxnId};
+use pv_cases::ordered;
+use std::alloc::Global;
 
 impl<V: Exact> Nodes<V> {
+    /// The transactions that the node names, ascending, each once.
+    pub fn names(&self, alloc: Global, number: u32) -> Result<Vec<TxnId>, NoMemory>
+        requires { number < length self.now }
+        ensures { IfOk result (λ txns. AreNames (cases_at self.now number) txns.items) }
+    {
+        let mut txns = Vec::new(alloc);
+        let mut seen = vec![in alloc; false; self.len() as usize]?;
+        self.push_names(number, &mut seen, &mut txns)?;
+        Ok(ordered(txns))
+    }
+
     /// Appends the transactions that the node names and the list doesn't have. A node that was seen isn't gone through again. After an error
     /// some of them stand in the list. Takes time in proportion to the nodes that weren't seen, times the names.
     pub fn push_names(

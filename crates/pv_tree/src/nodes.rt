@@ -20,7 +20,7 @@ pub enum Node<V> {
 /// way down, and no test has equal sides.
 #[derive(Debug, Drop)]
 pub struct Nodes<V> {
-    list: Vec<Node<V>>,
+    pub(crate) list: Vec<Node<V>>,
 }
 
 impl<V> Model for Nodes<V> {
@@ -41,7 +41,7 @@ impl<V> Model for Nodes<V> {
 const SOUGHT: u32 = 32;
 
 impl<V: Exact> Nodes<V> {
-    ghost use Rattle.pv_tree.specs.Nodes.{meaning_of, IsNext, IsNodeAt};
+    ghost use Rattle.pv_tree.specs.Nodes.{meaning_of, AreBelow, IsNext, IsNodeAt};
 
     /// No node.
     pub fn new(alloc: Global) -> Nodes<V>
@@ -90,15 +90,6 @@ impl<V: Exact> Nodes<V> {
     {
         self.list.truncate(number as usize + 1);
         self
-    }
-
-    /// Equal nodes, in memory of their own.
-    pub fn copy(&self, alloc: Global) -> Result<Nodes<V>, NoMemory>
-        ensures { IfOk result (λ copy. copy ≡ self.now) }
-    {
-        Ok(Nodes {
-            list: Vec::from_slice(alloc, &self.list)?,
-        })
     }
 
     /// The number of a leaf of this value, which is made if none is found.
@@ -150,6 +141,15 @@ impl<V: Exact> Nodes<V> {
         if self.same(aborted, committed) {
             return Ok(aborted);
         }
+        self.tested(txn, aborted, committed)
+    }
+
+    /// The number of the node that tests this transaction first, which is made if none is found. Its sides aren't equal.
+    pub fn tested(&mut self, txn: TxnId, aborted: u32, committed: u32) -> Result<u32, NoMemory>
+        requires { AreBelow self.old (length self.old) txn aborted committed }
+        ensures kept { OnOk result (Keeps self.old self.new) }
+        ensures test { IfOk result (λ number. IsAt self.new number (under txn false (cases_at self.old aborted) ++ under txn true (cases_at self.old committed))) }
+    {
         if let Some(number) = self.test_of(txn, aborted, committed) {
             return Ok(number);
         }

@@ -15,9 +15,7 @@ ghost use Rattle.pv_tree.specs.Meanings.{cases_at};
 use crate::nodes::Nodes;
 use crate::tree::Tree;
 use pv_base::{Case, CaseError, Exact, HELD_NAMES, Literal, NameError, NoMemory, TxnId};
-use pv_cases::{
-    first_difference, names_of, ordered, settled_value, sure_value, table_of, two_values,
-};
+use pv_cases::{first_difference, ordered, settled_value, sure_value, table_of, two_values};
 use std::alloc::Global;
 use std::marker::Model;
 
@@ -129,7 +127,7 @@ impl<V: Exact> Poly<V> {
         if count > HELD_NAMES {
             return Err(NameError::TooManyOutcomes(count));
         }
-        Ok(nodes.choose(txn, aborted, committed)?)
+        Ok(nodes.choose(alloc, txn, aborted, committed)?)
     }
 
     /// The value where exactly the transactions of `yes` commit. Takes time in proportion to the names, times the length of `yes`.
@@ -208,9 +206,18 @@ impl<V: Exact> Poly<V> {
                 tree: Tree::sure(alloc, value),
             });
         }
-        if let Some(poly) = Poly::read(alloc, &cases)? {
-            return Ok(poly);
+        match Poly::of_leaves(alloc, cases)? {
+            Ok(poly) => Ok(poly),
+            Err(cases) => Poly::reduced(alloc, cases),
         }
+    }
+
+    // The same, by the table of the cases.
+    fn reduced(alloc: Global, cases: Vec<Case<V>>) -> Result<Poly<V>, CaseError>
+        requires few_cases { length cases.items < 2 ^ 32 }
+        requires few_literals { sum (map (λ case. length case.when) cases.items) < 2 ^ 32 }
+        ensures answer { Answers (IsKept HELD_NAMES cases.items) (IsCanonicalFault HELD_NAMES cases.items) (λ poly. poly) fault_of result }
+    {
         let poly = Poly::joined(alloc, &cases)?;
         match first_difference(&cases, poly.tree.cases()) {
             None => Ok(poly),
@@ -218,23 +225,45 @@ impl<V: Exact> Poly<V> {
         }
     }
 
-    // The polyvalue of exactly these cases, where they are seen to be its canonical ones, without a table.
-    fn read(alloc: Global, cases: &[Case<V>]) -> Result<Option<Poly<V>>, NoMemory>
-        ensures { IfOk result (λ found. IfSome found (IsKept HELD_NAMES cases.now)) }
+    /// The polyvalue of exactly these cases, where they are seen to be its canonical ones; and else the cases. They are gone over once, as the leaves of
+    /// a decision tree from left to right, so that this takes time in proportion to the literals, and to the cases times at most the nodes that are made.
+    pub fn of_leaves(
+        alloc: Global,
+        cases: Vec<Case<V>>,
+    ) -> Result<Result<Poly<V>, Vec<Case<V>>>, NoMemory>
+        ensures kept { IfOk result (λ read. IfOk read (IsKept HELD_NAMES cases.items)) }
+        ensures given_back { IfOk result (λ read. IfErr read (λ given. given ≡ cases)) }
     {
         let mut nodes = Nodes::new(alloc);
-        let Some((root, _)) = nodes.guess(cases, 0, 0)? else {
+        match Poly::root_of(alloc, &cases, &mut nodes)? {
+            Some(root) => Ok(Ok(Poly {
+                tree: Tree::of_cases(alloc, nodes, root, cases)?,
+            })),
+            None => Ok(Err(cases)),
+        }
+    }
+
+    // The number of the node of these cases, where they are seen to be canonical ones, without a table. The nodes that this wants are made.
+    fn root_of(
+        alloc: Global,
+        cases: &[Case<V>],
+        nodes: &mut Nodes<V>,
+    ) -> Result<Option<u32>, NoMemory>
+        ensures there { IfOk result (λ found. IfSome found (λ root. root < length nodes.new)) }
+        ensures kept { IfOk result (λ found. IfSome found (λ root. IsKept HELD_NAMES cases.now (cases_at nodes.new root))) }
+    {
+        let mut way = Vec::new(alloc);
+        let Some((root, rest)) = nodes.read(cases, &mut way)? else {
             return Ok(None);
         };
-        let tree = Tree::of_nodes(alloc, nodes, root)?;
-        let None = first_difference(cases, tree.cases()) else {
+        if !rest.is_empty() {
             return Ok(None);
-        };
-        let txns = names_of(alloc, cases)?;
+        }
+        let txns = nodes.names(alloc, root)?;
         if txns.len() > HELD_NAMES as usize {
             return Ok(None);
         }
-        Ok(Some(Poly { tree }))
+        Ok(Some(root))
     }
 
     /// The polyvalue that these cases make up, in any order and not reduced.

@@ -1,48 +1,77 @@
-// Nodes of cases that seem to be canonical.
+// Nodes that cases are read into.
 ghost use Rattle.std.specs.Prelude.{◌≡◌, ◌<◌, ◌≤◌, true, length, IfOk, IfSome, OnOk};
 ghost use Rattle.pv_base.specs.Assignment.{precedes};
 ghost use Rattle.pv_base.specs.Polyvalue.{NamesOnlyAfter};
 ghost use Rattle.pv_base.specs.declared.limits.TheConstants.{HELD_NAMES};
-ghost use Rattle.pv_tree.specs.Meanings.{cases_at, IsMade, Keeps};
+ghost use Rattle.pv_tree.specs.Meanings.{cases_at, IsRead, Keeps};
+ghost use Rattle.pv_tree.specs.Nodes.{AreBelow};
 
 use crate::nodes::{Node, Nodes};
-use pv_base::{Case, Exact, HELD_NAMES, NoMemory, TxnId};
+use pv_base::{Case, Exact, HELD_NAMES, Literal, NoMemory, TxnId};
 
 impl<V: Exact> Nodes<V> {
-    /// The number of a node that the cases from this place on may be the first ones of, at this depth of a tree, and the place behind its cases. The
-    /// nodes that this wants are made. Whether it has these cases is to be seen: no literal before this depth is looked at, and none of a second
-    /// side's case. Takes time in proportion to the cases, times the names and at most the nodes that are made.
-    pub fn guess(
+    /// The number of the node of the first cases, each behind the literals of the way, and the rest behind these; or `None` where these aren't canonical. The
+    /// nodes that this wants are made. Then the way is as it was. Takes time in proportion to the literals, and to the cases times at most the
+    /// nodes that are made.
+    pub fn read<'a>(
         &mut self,
-        cases: &[Case<V>],
-        place: usize,
-        depth: u32,
-    ) -> Result<Option<(u32, usize)>, NoMemory>
-        requires { depth ≤ HELD_NAMES }
+        cases: &'a [Case<V>],
+        way: &mut Vec<Literal>,
+    ) -> Result<Option<(u32, &'a [Case<V>])>, NoMemory>
+        requires { length way.old.items ≤ HELD_NAMES }
         ensures kept { OnOk result (Keeps self.old self.new) }
-        ensures made { IfOk result (λ guess. IfSome guess (λ found. IsMade self.new found.0)) }
+        ensures read { IfOk result (λ read. IfSome read (λ found. IsRead way.old.items cases.now self.new found.0 found.1.now)) }
+        ensures way { IfOk result (λ read. IfSome read (λ found. way.new.items ≡ way.old.items)) }
     {
-        let Some(case) = cases.get(place) else {
+        let Some((case, rest)) = cases.split_first() else {
             return Ok(None);
         };
-        let Some(literal) = case.when.get(depth as usize) else {
+        let Some(literal) = case.when.get(way.len()) else {
+            if !is_way(&case.when, way) {
+                return Ok(None);
+            }
             let leaf = self.leaf(case.value)?;
-            return Ok(Some((leaf, place + 1)));
+            return Ok(Some((leaf, rest)));
         };
-        if depth == HELD_NAMES {
+        let txn = literal.txn;
+        if way.len() == HELD_NAMES as usize {
             return Ok(None);
         }
-        let Some((aborted, place)) = self.guess(cases, place, depth + 1)? else {
+        way.push(Literal {
+            txn,
+            commits: false,
+        })?;
+        let Some((aborted, others)) = self.read(cases, way)? else {
             return Ok(None);
         };
-        let Some((committed, place)) = self.guess(cases, place, depth + 1)? else {
+        way.pop();
+        way.push(Literal { txn, commits: true })?;
+        let Some((committed, others)) = self.read(others, way)? else {
             return Ok(None);
         };
-        if !self.is_after(literal.txn, aborted) || !self.is_after(literal.txn, committed) {
+        way.pop();
+        if !self.are_sides(txn, aborted, committed) {
             return Ok(None);
         }
-        let test = self.test(literal.txn, aborted, committed)?;
-        Ok(Some((test, place)))
+        let test = self.tested(txn, aborted, committed)?;
+        Ok(Some((test, others)))
+    }
+
+    // Whether these may be the sides of a test of the transaction.
+    fn are_sides(&self, txn: TxnId, aborted: u32, committed: u32) -> bool
+        requires aborted_there { aborted < length self.now }
+        requires committed_there { committed < length self.now }
+        ensures { result ≡ true → AreBelow self.now (length self.now) txn aborted committed }
+    {
+        // Reading the nodes shows the proof that both sides are canonical.
+        let _ = &self.list;
+        if !self.is_after(txn, aborted) {
+            return false;
+        }
+        if !self.is_after(txn, committed) {
+            return false;
+        }
+        !self.same(aborted, committed)
     }
 
     // Whether the node names only later transactions.
@@ -62,4 +91,32 @@ fn is_before(txn: TxnId, other: TxnId) -> bool
     ensures { result ≡ precedes txn other }
 {
     txn < other
+}
+
+// Whether these are the literals of the way.
+fn is_way(when: &[Literal], way: &[Literal]) -> bool
+    ensures { result ≡ true → when.now ≡ way.now }
+{
+    match when {
+        [] => match way {
+            [] => true,
+            [..] => false,
+        },
+        [literal, rest @ ..] => match way {
+            [] => false,
+            [other, others @ ..] => {
+                if !is_same(literal, other) {
+                    return false;
+                }
+                is_way(rest, others)
+            }
+        },
+    }
+}
+
+// Whether they are one literal.
+fn is_same(literal: &Literal, other: &Literal) -> bool
+    ensures { result ≡ true → literal.now ≡ other.now }
+{
+    literal == other
 }

@@ -65,7 +65,7 @@ pub fn outcome_of(literals: &[Literal], txn: TxnId) -> Option<bool>
 }
 
 /// A list to note nodes in, so many of them, with nothing noted.
-pub fn nothing_noted(alloc: Global, count: u32) -> Result<Vec<Option<u32>>, NoMemory>
+pub fn nothing_noted<T: Copy>(alloc: Global, count: u32) -> Result<Vec<Option<T>>, NoMemory>
     ensures { IfOk result (λ noted. (number : ℕ) → get_or noted.items number None ≡ None) }
 {
     let mut noted = Vec::with_capacity(alloc, count as usize)?;

@@ -1,19 +1,19 @@
 // The canonical cases of a polyvalue, and a decision tree of them.
-ghost use Rattle.std.specs.Prelude.{◌≡◌, ◌<◌, ◌≤◌, ◌^◌, false, true, [], ◌∷◌, ◌++◌, length, Some, IfOk, IfSome, OnOk};
+ghost use Rattle.std.specs.Prelude.{◌≡◌, ◌<◌, ◌≤◌, ◌^◌, false, true, [], ◌∷◌, length, Some, IfOk, IfSome, OnOk};
 ghost use Rattle.pv_base.specs.Assignment.{AreAscending};
 ghost use Rattle.pv_base.specs.Polyvalue.{value_at, names, AreNames, AreValues, IsCanonical};
 ghost use Rattle.pv_base.specs.declared.limits.TheConstants.{HELD_NAMES};
-ghost use Rattle.pv_cases.specs.CasesAt.{under_all};
 ghost use Rattle.pv_tree.specs.Meanings.{cases_at, Keeps};
 ghost use Rattle.pv_tree.specs.Settling.{Settles};
 
+use crate::branches::Branches;
 use crate::nodes::{Node, Nodes};
-use crate::settling::nothing_noted;
 use crate::two::{settle_two, value_of_two};
 use pv_base::{Case, Exact, HELD_NAMES, Literal, NoMemory, TxnId};
-use pv_cases::{case_under, copy_cases, names_of, ordered};
+use pv_cases::{case_under, names_of};
 use std::alloc::Global;
 use std::marker::Model;
+use std::sync::Arc;
 
 /// The cases, and the tree beside them.
 #[derive(Debug, Drop)]
@@ -22,8 +22,8 @@ pub enum Held<V> {
     One([Case<V>; 1]),
     /// The two cases of a choice between two values by one transaction. They want no tree either.
     Two([Case<V>; 2]),
-    /// The nodes of the tree, of which the last is the root, and its cases, from left to right.
-    Many(Nodes<V>, Vec<Case<V>>),
+    /// The nodes and the cases of any others, which are never changed and belong to all copies together.
+    Many(Arc<Branches<V>>),
 }
 
 /// The canonical cases of a polyvalue, beside a decision tree of them, on which it is worked. Most values depend on no outcome and have one case,
@@ -39,7 +39,7 @@ impl<V> Model for Tree<V> {
 
     ghost Value = { List (model.Case V) };
 
-    ghost use Rattle.pv_tree.specs.HeldCases.{held_cases, HasTree};
+    ghost use Rattle.pv_tree.specs.Held.{held_cases, HasTree};
 
     ghost view = { λ tree. held_cases tree.held };
 
@@ -54,7 +54,7 @@ impl<V> Tree<V> {
         match &self.held {
             Held::One(case) => case,
             Held::Two(cases) => cases,
-            Held::Many(_, cases) => cases,
+            Held::Many(branches) => branches.cases(),
         }
     }
 }
@@ -96,24 +96,42 @@ impl<V: Exact> Tree<V> {
                 if let Some((before, after)) = nodes.leaves(aborted, committed) {
                     return Tree::choice(alloc, txn, before, after);
                 }
-                let nodes = nodes.up_to(root);
-                let mut cases = Vec::with_capacity(alloc, nodes.len() as usize)?;
-                nodes.push_cases(root, &mut Vec::new(alloc), &mut cases)?;
-                Ok(Tree {
-                    held: Held::Many(nodes, cases),
-                })
+                Tree::of_branches(alloc, Branches::of_node(alloc, nodes, root)?)
             }
         }
     }
 
-    /// Equal cases and an equal tree, in memory of their own.
+    /// The cases of the node, which are these.
+    pub fn of_cases(
+        alloc: Global,
+        nodes: Nodes<V>,
+        root: u32,
+        cases: Vec<Case<V>>,
+    ) -> Result<Tree<V>, NoMemory>
+        requires there { root < length nodes }
+        requires cases { cases_at nodes root ≡ cases.items }
+        ensures { IfOk result (λ tree. tree ≡ cases.items) }
+    {
+        Tree::of_branches(alloc, Branches::of_cases(nodes, root, cases))
+    }
+
+    // The tree of these branches.
+    fn of_branches(alloc: Global, branches: Branches<V>) -> Result<Tree<V>, NoMemory>
+        ensures { IfOk result (λ tree. tree ≡ branches) }
+    {
+        Ok(Tree {
+            held: Held::Many(Arc::new(alloc, branches)?),
+        })
+    }
+
+    /// Equal cases and an equal tree. One case and two are copied, and others are shared.
     pub fn copy(&self, alloc: Global) -> Result<Tree<V>, NoMemory>
         ensures { IfOk result (λ copy. copy ≡ self.now) }
     {
         let held = match &self.held {
             Held::One([case]) => Held::One([copy_case(alloc, case)?]),
             Held::Two([before, after]) => Held::Two([before.copy(alloc)?, after.copy(alloc)?]),
-            Held::Many(nodes, cases) => Held::Many(nodes.copy(alloc)?, copy_cases(alloc, cases)?),
+            Held::Many(branches) => Held::Many(Arc::try_clone(branches)?),
         };
         Ok(Tree { held })
     }
@@ -126,7 +144,7 @@ impl<V: Exact> Tree<V> {
         match &self.held {
             Held::One(case) => only_value(case),
             Held::Two(cases) => value_of_two(cases, yes),
-            Held::Many(nodes, _) => nodes.value_at(nodes.len() - 1, yes),
+            Held::Many(branches) => branches.value_at(yes),
         }
     }
 
@@ -144,10 +162,7 @@ impl<V: Exact> Tree<V> {
         match &self.held {
             Held::One(case) => target.leaf(only_value(case)),
             Held::Two(cases) => settle_two(cases, literals, target),
-            Held::Many(nodes, _) => {
-                let mut noted = nothing_noted(alloc, nodes.len())?;
-                nodes.settle(nodes.len() - 1, literals, target, &mut noted)
-            }
+            Held::Many(branches) => branches.settle(alloc, literals, target),
         }
     }
 
@@ -158,12 +173,7 @@ impl<V: Exact> Tree<V> {
     {
         match &self.held {
             Held::One(_) | Held::Two(_) => names_of(alloc, self.cases()),
-            Held::Many(nodes, _) => {
-                let mut txns = Vec::new(alloc);
-                let mut seen = vec![in alloc; false; nodes.len() as usize]?;
-                nodes.push_names(nodes.len() - 1, &mut seen, &mut txns)?;
-                Ok(ordered(txns))
-            }
+            Held::Many(branches) => branches.names(alloc),
         }
     }
 
@@ -182,9 +192,9 @@ impl<V: Exact> Tree<V> {
                 nodes.push_table(root, txns, &mut values)?;
                 Ok(values)
             }
-            Held::Many(nodes, _) => {
+            Held::Many(branches) => {
                 let mut values = Vec::with_capacity(alloc, 1 << txns.len())?;
-                nodes.push_table(nodes.len() - 1, txns, &mut values)?;
+                branches.push_table(txns, &mut values)?;
                 Ok(values)
             }
         }
@@ -206,40 +216,6 @@ impl<V: Exact> Nodes<V> {
             return None;
         };
         Some((value, second))
-    }
-
-    // Appends the node's cases, each under the literals of the way down to here.
-    fn push_cases(
-        &self,
-        number: u32,
-        way: &mut Vec<Literal>,
-        cases: &mut Vec<Case<V>>,
-    ) -> Result<(), NoMemory>
-        requires there { number < length self.now }
-        ensures cases { OnOk result (cases.new.items ≡ cases.old.items ++ under_all way.old.items (cases_at self.now number)) }
-        ensures way { OnOk result (way.new.items ≡ way.old.items) }
-    {
-        match self.node(number) {
-            Node::Leaf(value) => {
-                cases.push(Case {
-                    when: way.clone()?,
-                    value,
-                })?;
-                Ok(())
-            }
-            Node::Test(txn, aborted, committed) => {
-                way.push(Literal {
-                    txn,
-                    commits: false,
-                })?;
-                self.push_cases(aborted, way, cases)?;
-                way.pop();
-                way.push(Literal { txn, commits: true })?;
-                self.push_cases(committed, way, cases)?;
-                way.pop();
-                Ok(())
-            }
-        }
     }
 }
 

@@ -1,6 +1,5 @@
 -- A leaf's case has the literals of the way, and those of a test are put under its outcomes.
 use Rattle.std.proofs.Common.{refl, true, false, List, [], ◌∷◌, ◌++◌, ap, ◌∙◌}
-use Rattle.std.specs.List.{each_same}
 use Rattle.pv_base.specs.declared.literal.Literal.{Literal}
 use Rattle.pv_cases.proofs.PushedCases.{pushed-sure, pushed-test, popped-way}
 use Rattle.pv_tree.specs.Meanings.{cases_at}
@@ -9,9 +8,9 @@ use Rattle.pv_tree.proofs.nodes.Nodes.+push_cases.Goals as goal
 
 pub returns-in_ok-push-in-Leaf-clause-cases : goal.returns-in_ok-push-in-Leaf-clause-cases
 returns-in_ok-push-in-Leaf-clause-cases g t c =
-    pushed-sure (cases_at c.args.self.now c.args.number) c.args.way.now.items c.in_ok-clone-in-Leaf.field-0.items c.in-Leaf.value c.args.cases.now.items c.push.new.self.items
+    pushed-sure (cases_at c.args.self.now c.args.number) c.args.way.now.items c.in_ok-when-in-Leaf.when.items c.in-Leaf.value c.args.cases.now.items c.push.new.self.items
     c.in-Leaf.ensures.node
-    (each_same c.args.way.now.items c.in_ok-clone-in-Leaf.field-0.items c.in_ok-clone-in-Leaf.ensures.cases.0)
+    (c.in_ok-when-in-Leaf.ensures ∙ c.deref.ensures.value)
     c.in_ok-push-in-Leaf.ensures.items
 
 pub returns-in_ok-push_cases-in-Test-2-clause-cases : goal.returns-in_ok-push_cases-in-Test-2-clause-cases

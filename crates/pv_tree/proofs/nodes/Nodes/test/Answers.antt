@@ -13,20 +13,8 @@ returns-then-same-clause-test g c =
     (canonical-in c.self.inside.list.items c.args.self.now c.args.aborted c.self.view_is c.self.invariant c.requires.aborted_there)
     (c.same.ensures.equal c.if-same.true)
 
-pub returns-in-Some-clause-test : goal.returns-in-Some-clause-test
-returns-in-Some-clause-test g c =
-    test-chooses c.args.txn (cases_at c.args.self.now c.args.aborted) (cases_at c.args.self.now c.args.committed) c.args.self.now c.in-Some.number
-    (record {
-      aborted_canonical = canonical-in c.self.inside.list.items c.args.self.now c.args.aborted c.self.view_is c.self.invariant c.requires.aborted_there;
-      committed_canonical = canonical-in c.self.inside.list.items c.args.self.now c.args.committed c.self.view_is c.self.invariant c.requires.committed_there;
-      aborted_after = c.requires.aborted_after;
-      committed_after = c.requires.committed_after;
-      differ = λ same. false≢true (sym c.if-same.false ∙ c.same.ensures.unequal same);
-    })
-    c.in-Some.ensures
-
-pub push-requires : goal.push-requires
-push-requires g c = record {
+pub tested-requires : goal.tested-requires
+tested-requires g c = record {
   aborted_below = c.requires.aborted_there;
   committed_below = c.requires.committed_there;
   sides = record {
@@ -42,8 +30,8 @@ pub returns-clause-test : goal.returns-clause-test
 returns-clause-test g c =
     let aborted = cases_at c.args.self.now c.args.aborted in
     let committed = cases_at c.args.self.now c.args.committed in
-    IfOk-weaker c.push.result _ (Chooses c.args.txn aborted committed c.push.new.self)
-    (λ number at. test-chooses c.args.txn aborted committed c.push.new.self number
+    IfOk-weaker c.tested.result _ (Chooses c.args.txn aborted committed c.tested.new.self)
+    (λ number at. test-chooses c.args.txn aborted committed c.tested.new.self number
     (record {
       aborted_canonical = canonical-in c.self.inside.list.items c.args.self.now c.args.aborted c.self.view_is c.self.invariant c.requires.aborted_there;
       committed_canonical = canonical-in c.self.inside.list.items c.args.self.now c.args.committed c.self.view_is c.self.invariant c.requires.committed_there;
@@ -52,4 +40,4 @@ returns-clause-test g c =
       differ = λ same. false≢true (sym c.if-same.false ∙ c.same.ensures.unequal same);
     })
     at)
-    c.push.ensures.new
+    c.tested.ensures.test
