@@ -1,3 +1,4 @@
+pub mod BegunLemmas
 pub mod CaseLemmas
 pub mod OrderLemmas
 pub mod ContentLemmas

@@ -26,6 +26,11 @@ tests_bytes [] = []
 tests_bytes (literal ∷ literals) =
     (if list_all (λ (one : Literal). not one.commits) (literal ∷ literals) then test_bytes literal.txn else []) ++ tests_bytes literals
 
+-- the literals behind the last one that asks for a commit
+abbrev pub begun : List Literal → List Literal
+begun [] = []
+begun (literal ∷ literals) = if list_all (λ (one : Literal). not one.commits) (literal ∷ literals) then literal ∷ literals else begun literals
+
 -- the bytes of leaves, each behind such tests
 abbrev pub leaves_bytes : List (Case ℤ) → List ℕ
 leaves_bytes cases = flat_map (λ case. tests_bytes case.when ++ leaf_bytes case.value) cases

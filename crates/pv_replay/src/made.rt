@@ -47,6 +47,10 @@ pub(crate) fn poly_of(
     if let Some(choice) = choice_of(&cases) {
         return Ok(chosen(alloc, choice)?);
     }
+    let cases = match Poly::of_leaves(alloc, cases)? {
+        Ok(poly) => return Ok(poly),
+        Err(cases) => cases,
+    };
     if !look_canonical(&cases) {
         return Err(PolyError::BadPoly(place));
     }

@@ -1,6 +1,5 @@
 // Polyvalues as bytes: the count of the leaves, and the tree from its root on, each test once.
-ghost use Rattle.std.specs.Prelude.{◌≡◌, ◌++◌, ◌∷◌, [], ◌≤◌, ℕ, ℤ, List, map, length, not, true, IfOk, IfErr, OnOk};
-ghost use Rattle.std.specs.List.{list_all};
+ghost use Rattle.std.specs.Prelude.{◌≡◌, ◌++◌, ◌∷◌, [], ◌≤◌, ℕ, ℤ, List, map, length, true, IfOk, IfErr, OnOk};
 ghost use Rattle.std.specs.Io.{StartsWith};
 ghost use Rattle.pv_base.specs.Answer.{Answers};
 ghost use Rattle.pv_base.specs.declared.limits.TheConstants.{HELD_NAMES};
@@ -12,16 +11,19 @@ ghost use Rattle.pv_format.specs.PolyvalueSpelling.{BeginsWith, SpellsNode, Spel
 ghost use Rattle.pv_fields.specs.Decoding.{Passes, Stops};
 ghost use Rattle.pv_replay.specs.Faults.{fault_of};
 ghost use Rattle.pv_replay.specs.Left.{HasGoneOn};
-ghost use Rattle.pv_replay.specs.Nodes.{leaf_bytes, leaves_bytes, test_bytes, tests_bytes, IsNodeRead};
+ghost use Rattle.pv_replay.specs.Nodes.{begun, leaf_bytes, leaves_bytes, test_bytes, tests_bytes, IsNodeRead};
 
 use crate::PolyError;
 use crate::fields::{take_txn, txn_bytes};
 use crate::made::{poly_of, poly_of_case};
-use crate::room::with_room_for_few;
+use crate::room::with_room;
 use pv_base::{Case, HELD_NAMES, Literal, NoMemory, TxnId};
 use pv_bytes::{Put, Take};
 use pv_tree::Poly;
 use std::alloc::Global;
+
+// How many bytes a leaf takes.
+const LEAF: usize = 9;
 
 /// Writes a polyvalue that some bytes spell. Takes time in proportion to its literals. After a refusal the `Put` holds a part of them, and is to
 /// be dropped.
@@ -52,21 +54,25 @@ fn put_tests(put: &mut Put, when: &[Literal]) -> Result<(), NoMemory>
     ensures written { OnOk result (put.new.bytes ≡ put.old.bytes ++ tests_bytes when.now) }
     ensures kept { StartsWith put.new.bytes put.old.bytes }
 {
-    let mut rest = when;
+    let mut rest = begun(when);
     while let [literal, later @ ..] = rest {
-        if begins_here(rest) {
-            put_test(put, literal.txn)?;
-        }
+        put_test(put, literal.txn)?;
         rest = later;
     }
     Ok(())
 }
 
-// Whether none of the literals asks for a commit.
-fn begins_here(literals: &[Literal]) -> bool
-    ensures { result ≡ list_all (λ literal. not literal.commits) literals.now }
+// The literals behind the last one that asks for a commit.
+fn begun(literals: &[Literal]) -> &[Literal]
+    ensures { result.now ≡ begun literals.now }
 {
-    literals.iter().all(|literal| !literal.commits)
+    let mut behind = literals;
+    let mut rest = literals;
+    while let [literal, later @ ..] = rest {
+        behind = if literal.commits { later } else { behind };
+        rest = later;
+    }
+    behind
 }
 
 // Writes the front of a test.
@@ -140,7 +146,8 @@ fn read_poly(alloc: Global, take: &mut Take<'_>) -> Result<Poly<i64>, PolyError>
         };
         return poly_of_case(alloc, case, place);
     }
-    let mut cases = with_room_for_few(alloc, usize::from(count))?;
+    // As many leaves as the bytes may have are no more than these tell of.
+    let mut cases = with_room(alloc, usize::from(count).min(take.left().len() / LEAF))?;
     let mut way = Vec::new(alloc);
     take_node(alloc, take, HELD_NAMES, &mut way, &mut cases)?;
     if cases.len() != usize::from(count) {

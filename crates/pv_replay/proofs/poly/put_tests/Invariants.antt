@@ -2,11 +2,12 @@
 use Rattle.std.proofs.Common.{◌≡◌, ◌++◌, length}
 use Rattle.std.specs.Io.{StartsWith}
 use Rattle.pv_replay.specs.Nodes.{tests_bytes}
+use Rattle.pv_replay.proofs.BegunLemmas.{all_bytes}
 use Rattle.pv_replay.proofs.poly.put_tests.Given as goal
 
 abbrev pub invariant-loop-rest : goal.invariant-loop-rest
 invariant-loop-rest l = record {
-  written : l.put.bytes ++ tests_bytes l.rest ≡ l.initial.put.bytes ++ tests_bytes l.when;
+  written : l.put.bytes ++ all_bytes l.rest ≡ l.initial.put.bytes ++ tests_bytes l.when;
   kept : StartsWith l.put.bytes l.initial.put.bytes;
 }
 
