@@ -46,12 +46,17 @@ pub(crate) fn columns_of(
     Ok(columns)
 }
 
-/// What is read at the assignment at this place.
-pub(crate) fn rows_in(alloc: Global, columns: &[Column], place: usize) -> Result<Vec<Row>, NoMemory>
+/// What is read at the assignment at this place, in the memory of rows that are dropped.
+pub(crate) fn rows_in(
+    memory: Vec<Row>,
+    columns: &[Column],
+    place: usize,
+) -> Result<Vec<Row>, NoMemory>
     requires { All (λ column. place < length column.values) columns.now }
     ensures { IfOk result (λ rows. rows.items ≡ map (row_at place) columns.now) }
 {
-    let mut rows = Vec::new(alloc);
+    let mut rows = memory;
+    rows.clear();
     for column in columns {
         rows.push(Row {
             item: column.item,

@@ -25,9 +25,11 @@ pub(crate) fn effects_of(
 {
     let columns = columns_of(alloc, reads, txns)?;
     let mut effects = Vec::new(alloc);
+    let mut memory = Vec::new(alloc);
     for place in 0..1usize << txns.len() {
-        let rows = rows_in(alloc, &columns, place)?;
+        let rows = rows_in(memory, &columns, place)?;
         effects.push(exec(alloc, program, &rows)?)?;
+        memory = rows;
     }
     Ok(effects)
 }
