@@ -1,8 +1,16 @@
--- What a history says of a client's request.
-use Rattle.std.specs.Prelude.{◌≡◌, Some, None, ⊤}
+-- What a history says of what a client wants.
+use Rattle.std.specs.Prelude.{◌≡◌, ℕ, ◌≤◌, Some, None, length, ⊤}
+use Rattle.pv_law_histories.specs.Peeks.{reading_after}
+use Rattle.pv_protocol.specs.Report.{Reading, cases, locked, down}
 use Rattle.pv_script.specs.LineView.{line_of}
+use Rattle.pv_script.specs.declared.live.Wish.{Wish}
+use Rattle.pv_script.specs.declared.live.Wish.TheVariants.{Do, Peek}
+use Rattle.pv_shelf.specs.declared.face.Face.{Face}
+use Rattle.pv_shelf.specs.declared.face.Face.TheVariants as face
+use Rattle.pv_site.specs.SiteState.{setup_of}
 use Rattle.pv_mail.specs.declared.asked.Asker.{Asker}
 use Rattle.pv_told.specs.Along.{line_by}
+use Rattle.pv_told.specs.declared.line.ClientLine.{ClientLine}
 use Rattle.pv_told.specs.declared.line.ClientWhat.{ClientWhat}
 use Rattle.pv_told.specs.declared.line.ClientWhat.TheVariants as what
 use Rattle.pv_cell.specs.Box.{IsWorn}
@@ -13,8 +21,28 @@ use Rattle.pv_closing.specs.Boxes.{history_in}
 -- there was no memory.
 abbrev pub IsHeard : {W : Type 0} → SiteBox W → Asker → ClientWhat → Type 0
 IsHeard box asker (what.Line line) = line_by box.site.me asker (history_in box) ≡ Some (line_of line)
+IsHeard box asker (what.Peek peek) = ⊥
 IsHeard box asker what.Worn = (line_by box.site.me asker (history_in box) ≡ None) × IsWorn box
 IsHeard box asker what.NoMemory = (line_by box.site.me asker (history_in box) ≡ None) × (IsWorn box → ⊥)
+
+-- what a face is read as, of an item of the site of this number
+abbrev pub reading_of : ℕ → Face → Reading
+reading_of me (face.Cases value) = cases value
+reading_of me (face.Locked holder) = locked holder
+reading_of me face.Down = down me
+
+-- What a client hears of an item of its site that it looks at, by the site's box: how the site read it after so many entries of its history; or that there was no memory.
+abbrev pub IsPeeked : {W : Type 0} → SiteBox W → (item : ℕ) → ClientWhat → Type 0
+IsPeeked box item (what.Peek peek) =
+    (peek.steps ≤ length (history_in box))
+    × (reading_of box.site.me peek.face ≡ reading_after (setup_of box.site.catalog) box.site.me (history_in box) peek.steps item)
+IsPeeked box item what.NoMemory = ⊤
+IsPeeked box item other = ⊥
+
+-- The line of what a client wants: of a request what the history says, and of an item how it was read, at the end of the history or earlier.
+abbrev pub IsLineFor : {W : Type 0} → SiteBox W → Wish → (said told : ClientLine) → Type 0
+IsLineFor box (Do request) said told = told ≡ said
+IsLineFor box (Peek number item) said told = (told.request ≡ said.request) × IsPeeked box item.0 told.what
 
 -- It is no line of the history.
 abbrev pub IsUntold : ClientWhat → Type 0
