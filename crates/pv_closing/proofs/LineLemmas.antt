@@ -1,5 +1,5 @@
 -- What clients hear by the boxes of their sites.
-use Rattle.std.proofs.Common.{◌≡◌, ℕ, ◌+◌, ◌<◌, ◌≤◌, ◌==◌, Bool, true, false, List, [], ◌∷◌, ◌++◌, length, get_or, take, sym, ap, ◌∙◌, subst, arith, if◌then◌else◌}
+use Rattle.std.proofs.Common.{◌≡◌, ℕ, ◌+◌, ◌<◌, ◌≤◌, ◌==◌, Bool, true, false, List, [], ◌∷◌, ◌++◌, All, length, get_or, take, sym, ap, ◌∙◌, subst, arith, if◌then◌else◌}
 use Rattle.std.proofs.Math.ListN.{get_or-append}
 use Rattle.std.proofs.Math.Seq.{get_or-append_seam}
 use Rattle.std.proofs.lemmas.List.{length-append}
@@ -25,11 +25,12 @@ use Rattle.pv_told.specs.declared.line.ClientWhat.TheVariants as what
 use Rattle.pv_cell.specs.Box.{IsWorn}
 use Rattle.pv_cell.specs.declared.site_box.SiteBox.{SiteBox}
 use Rattle.pv_closing.proofs.AskedLemmas.{no-line}
+use Rattle.pv_closing.proofs.LookLemmas.{looks-in-order}
 use Rattle.pv_closing.specs.Boxes.{history_in}
 use Rattle.pv_opening.specs.Counts.{count_at}
-use Rattle.pv_opening.specs.Opening.{IsRead}
+use Rattle.pv_opening.specs.Opening.{IsHere, IsRead}
 use Rattle.pv_closing.specs.Clients.{AreTold, HearsAll, IsTold}
-use Rattle.pv_closing.specs.Lines.{IsHeard, IsLineFor, IsUntold}
+use Rattle.pv_closing.specs.Lines.{HaveLooked, IsHeard, IsLineFor, IsUntold}
 
 some-none : {A : Type 0} (x : A) → Some x ≡ None → ⊥
 some-none x is = absurd cc
@@ -60,6 +61,19 @@ module _ {W : Type 0} (box : SiteBox W) (place : ℕ) (worn : Bool) (to : worn �
       subst (λ (one : ClientLine). IsTold box place k (Do request) one) (sym same) heard_line
   one-heard k (Peek number item) line told is said found = (found.0 ∙ is, found.1)
 
+  -- So it is of all that a client wants, once looks are put among the lines of requests.
+  pub all-heard : (client : Client) (lines told : List ClientLine) → AreLinesOf box.site.me worn (history_in box) place (length client.requests.items) lines
+      → HaveLooked box client.requests.items lines (length client.requests.items) told → HearsAll box place client told
+  all-heard client lines told are looked = (
+    (
+      sym are.0 ∙ sym looked.count,
+      λ k wish line less.
+          let is = are.1 k line less in
+          one-heard k (get_or client.requests.items k wish) (get_or lines k line) (get_or told k line) is.0 is.1 (looked.told k wish line less),
+    ),
+    looks-in-order box place told (λ k line peek less is. looked.last k line peek (omega (arith, less, looked.count, are.0)) is),
+  )
+
 -- ## Places
 count-case : (test : Bool) (place rest whole : ℕ) → place + (if test then rest + 1 else rest) ≡ whole → (if test then place + 1 else place) + rest ≡ whole
 count-case true place rest whole is = omega (arith, is)
@@ -86,6 +100,14 @@ pub this-fits : ((script : LiveScript) (k : ℕ) (any : Client) → IsRead scrip
     → at < length script.clients.items → (client.site.0 < script.catalog.sites) × (length client.requests.items ≤ MAX_REQUESTS)
 this-fits fit script read at client is within =
     subst (λ (one : Client). (one.site.0 < script.catalog.sites) × (length one.requests.items ≤ MAX_REQUESTS)) (sym is) (fit script at client read within)
+
+-- Each looks at items of its site alone.
+pub this-looks : ((script : LiveScript) (k : ℕ) (any : Client) → IsRead script → k < length script.clients.items
+    → All (IsHere script.catalog.items (get_or script.clients.items k any).site.0) (get_or script.clients.items k any).requests.items)
+    → (script : LiveScript) → IsRead script → (at : ℕ) (client : Client) → client ≡ get_or script.clients.items at client
+    → at < length script.clients.items → All (IsHere script.catalog.items client.site.0) client.requests.items
+this-looks here script read at client is within =
+    subst (λ (one : Client). All (IsHere script.catalog.items one.site.0) one.requests.items) (sym is) (here script at client read within)
 
 module _ {W : Type 0} (boxes : List (SiteBox W)) (clients : List Client) where
   abbrev IsOne : ℕ → Client → Vec ClientLine Global → Type 0

@@ -1,5 +1,5 @@
 -- What a history says of what a client wants.
-use Rattle.std.specs.Prelude.{◌≡◌, ℕ, ◌≤◌, Some, None, length, ⊤}
+use Rattle.std.specs.Prelude.{◌≡◌, ℕ, ◌<◌, ◌≤◌, Some, None, List, get_or, length, ⊤}
 use Rattle.pv_law_histories.specs.Peeks.{reading_after}
 use Rattle.pv_protocol.specs.Report.{Reading, cases, locked, down}
 use Rattle.pv_script.specs.LineView.{line_of}
@@ -7,6 +7,7 @@ use Rattle.pv_script.specs.declared.live.Wish.{Wish}
 use Rattle.pv_script.specs.declared.live.Wish.TheVariants.{Do, Peek}
 use Rattle.pv_shelf.specs.declared.face.Face.{Face}
 use Rattle.pv_shelf.specs.declared.face.Face.TheVariants as face
+use Rattle.pv_shelf.specs.declared.peek.Peek as look
 use Rattle.pv_site.specs.SiteState.{setup_of}
 use Rattle.pv_mail.specs.declared.asked.Asker.{Asker}
 use Rattle.pv_told.specs.Along.{line_by}
@@ -43,6 +44,17 @@ IsPeeked box item other = ⊥
 abbrev pub IsLineFor : {W : Type 0} → SiteBox W → Wish → (said told : ClientLine) → Type 0
 IsLineFor box (Do request) said told = told ≡ said
 IsLineFor box (Peek number item) said told = (told.request ≡ said.request) × IsPeeked box item.0 told.what
+
+-- The line is of no look.
+abbrev pub IsNoLook : ClientLine → Type 0
+IsNoLook line = (peek : look.Peek) → line.what ≡ what.Peek peek → ⊥
+
+-- In these lines of all that a client wants stands what it finds of the items among the first so many, at the end of its site's history. Before they said nothing of looks.
+pub record HaveLooked {W : Type 0} (box : SiteBox W) (wishes : List Wish) (said : List ClientLine) (at : ℕ) (lines : List ClientLine) : Type 0 where
+  pub count : length lines ≡ length said
+  pub told : (k : ℕ) (wish : Wish) (line : ClientLine) → k < at → IsLineFor box (get_or wishes k wish) (get_or said k line) (get_or lines k line)
+  pub last : (k : ℕ) (line : ClientLine) (peek : look.Peek) → k < at → (get_or lines k line).what ≡ what.Peek peek → peek.steps ≡ length (history_in box)
+  pub left : (k : ℕ) (line : ClientLine) → at ≤ k → get_or lines k line ≡ get_or said k line
 
 -- It is no line of the history.
 abbrev pub IsUntold : ClientWhat → Type 0

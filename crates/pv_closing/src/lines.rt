@@ -1,18 +1,16 @@
 // The lines of clients.
-ghost use Rattle.std.specs.Prelude.{◌≡◌, ◌==◌, ◌≤◌, ℕ, ◌+◌, ◌<◌, ◌^◌, All, IfOk, IsTrue, get_or, if◌then◌else◌, length, take, vec_len};
+ghost use Rattle.std.specs.Prelude.{◌≡◌, ◌==◌, ◌≤◌, ℕ, ◌+◌, ◌<◌, ◌^◌, All, IfOk, IsTrue, get_or, if◌then◌else◌, length, take};
 ghost use Rattle.pv_base.specs.declared.limits.TheConstants.{MAX_CLIENTS};
 ghost use Rattle.pv_cell.specs.Box.{course_site};
 ghost use Rattle.pv_closing.specs.Boxes.{IsClosedBox, Stands, history_in};
 ghost use Rattle.pv_closing.specs.Clients.{AreTold, HearsAll};
-ghost use Rattle.pv_closing.specs.Lines.{IsLineFor, IsPeeked, reading_of};
+ghost use Rattle.pv_closing.specs.Lines.{HaveLooked, IsLineFor, IsNoLook, IsPeeked, reading_of};
 ghost use Rattle.pv_law_histories.specs.Peeks.{reading_in};
 ghost use Rattle.pv_opening.specs.Counts.{count_at};
 ghost use Rattle.pv_opening.specs.Opening.{IsHere, IsRead};
 ghost use Rattle.pv_protocol.specs.Lock.{is_home};
-ghost use Rattle.pv_script.specs.declared.live.Wish.{Wish};
 ghost use Rattle.pv_shelf.specs.declared.peek.Peek.{Peek};
 ghost use Rattle.pv_site.specs.SiteState.{setup_of};
-ghost use Rattle.pv_told.specs.declared.line.ClientLine.{ClientLine};
 ghost use Rattle.pv_told.specs.declared.line.ClientWhat.TheVariants as what;
 
 use pv_base::{ItemId, NoMemory, SiteId};
@@ -97,7 +95,7 @@ fn lines_by<L: Log>(
     ensures { IfOk result (λ lines. HearsAll of.now place client.now lines.items) }
 {
     let wishes = client.requests.len() as u32;
-    let said = lines_of_client(
+    let mut lines = lines_of_client(
         alloc,
         client.site,
         of.is_worn(),
@@ -105,48 +103,38 @@ fn lines_by<L: Log>(
         place,
         wishes,
     )?;
-    with_looks(alloc, of, &client.requests, said)
-}
-
-// The lines of all that the client wants: those that were said, but of the items that it looks at what it finds of them.
-fn with_looks<L: Log>(
-    alloc: Global,
-    of: &SiteBox<L>,
-    wishes: &[Wish],
-    said: Vec<ClientLine>,
-) -> Result<Vec<ClientLine>, NoMemory>
-    requires stands { Stands of.now }
-    requires here { All (IsHere of.now.site.catalog.items of.now.site.me) wishes.now }
-    requires count { vec_len said ≡ length wishes.now }
-    ensures count { IfOk result (λ lines. vec_len lines ≡ length wishes.now) }
-    ensures lines { (k : ℕ) (wish : Wish) (line : ClientLine) → k < length wishes.now →
-        IfOk result (λ lines. IsLineFor of.now (get_or wishes.now k wish) (get_or said.items k line) (get_or lines.items k line)) }
-    ensures last { (k : ℕ) (line : ClientLine) (peek : Peek) → k < length wishes.now →
-        IfOk result (λ lines. (get_or lines.items k line).what ≡ what.Peek peek → peek.steps ≡ length (history_in of.now)) }
-{
-    let mut lines = Vec::with_capacity(alloc, said.len())?;
-    let mut at = 0;
-    for line in said {
-        lines.push_reserved(line_of(alloc, of, &wishes[at], line));
-        at += 1;
-    }
+    put_looks(alloc, of, &client.requests, &mut lines);
     Ok(lines)
 }
 
-// The line of one thing that the client wants.
-fn line_of<L: Log>(alloc: Global, of: &SiteBox<L>, wish: &Wish, said: ClientLine) -> ClientLine
+// Puts what the client finds of the items that it looks at into the lines of all that it wants, which say nothing of looks yet.
+fn put_looks<L: Log>(
+    alloc: Global,
+    of: &SiteBox<L>,
+    wishes: &[Wish],
+    lines: &mut [ClientLine],
+)
+    requires stands { Stands of.now }
+    requires here { All (IsHere of.now.site.catalog.items of.now.site.me) wishes.now }
+    requires count { length lines.old ≡ length wishes.now }
+    requires said { All IsNoLook lines.old }
+    ensures { HaveLooked of.now wishes.now lines.old (length wishes.now) lines.new }
+{
+    for at in 0..wishes.len() {
+        put_look(alloc, of, &wishes[at], &mut lines[at]);
+    }
+}
+
+// Puts what the client finds of an item into its line, where it looks at one.
+fn put_look<L: Log>(alloc: Global, of: &SiteBox<L>, wish: &Wish, line: &mut ClientLine)
     requires stands { Stands of.now }
     requires here { IsHere of.now.site.catalog.items of.now.site.me wish.now }
-    requires said { (peek : Peek) → said.what ≡ what.Peek peek → ⊥ }
-    ensures line { IsLineFor of.now wish.now said result }
-    ensures last { (peek : Peek) → result.what ≡ what.Peek peek → peek.steps ≡ length (history_in of.now) }
+    requires said { IsNoLook line.old }
+    ensures told { IsLineFor of.now wish.now line.old line.new }
+    ensures last { (peek : Peek) → line.new.what ≡ what.Peek peek → peek.steps ≡ length (history_in of.now) }
 {
-    match wish {
-        Wish::Do(_) => said,
-        Wish::Peek { item, .. } => ClientLine {
-            request: said.request,
-            what: look(alloc, of, *item),
-        },
+    if let Wish::Peek { item, .. } = wish {
+        line.what = look(alloc, of, *item);
     }
 }
 
