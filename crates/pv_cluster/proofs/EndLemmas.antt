@@ -129,10 +129,8 @@ module _ {W : Type 0} (M : LogModel W) (script : LiveScript) (read : IsRead scri
     pub last-count : length last ≡ script.catalog.sites
     last-count = stands.count
 
-    pub last-numbers : (n : ℕ) (any : SiteBox W) → n < length last → (get_or last n any).site.me ≡ n
-    last-numbers n any less = (stands.boxes_are n any less).number
-
-    closed-last : (n : ℕ) (any : SiteBox W) → n < length last → IsClosedBox M script.catalog n (get_or last n any)
+    -- Each of them is closed where its history leaves it.
+    pub closed-last : (n : ℕ) (any : SiteBox W) → n < length last → IsClosedBox M script.catalog n (get_or last n any)
     closed-last n any less =
         let there : n < length was.round = subst (λ (m : ℕ). n < m) (sym still.0) less in
         closed-still M script.catalog n (get_or was.round n any) (get_or last n any) lent_box (still.1 n any any there) (was.closed n any there)
