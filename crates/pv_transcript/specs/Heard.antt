@@ -1,8 +1,9 @@
 -- What clients heard of all that they want.
 use Rattle.std.specs.Prelude.{ℕ, ◌+◌, List, [], ◌∷◌, ◌++◌, codes}
 use Rattle.pv_base.specs.Catalog.{Declared}
+use Rattle.pv_base.specs.Txn.{txn_text}
 use Rattle.pv_model.specs.ReplyText.{line_feed}
-use Rattle.pv_protocol.specs.LineText.{cases_text, numbered_text, txn_text, words_of}
+use Rattle.pv_protocol.specs.LineText.{cases_text, numbered_text, words_of}
 use Rattle.pv_protocol.specs.Lines.{Line}
 use Rattle.pv_protocol.specs.Report.{Reading, cases, locked, down}
 
