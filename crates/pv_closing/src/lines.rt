@@ -112,13 +112,13 @@ fn put_looks<L: Log>(
     alloc: Global,
     of: &SiteBox<L>,
     wishes: &[Wish],
-    lines: &mut [ClientLine],
+    lines: &mut Vec<ClientLine>,
 )
     requires stands { Stands of.now }
     requires here { All (IsHere of.now.site.catalog.items of.now.site.me) wishes.now }
-    requires count { length lines.old ≡ length wishes.now }
-    requires said { All IsNoLook lines.old }
-    ensures { HaveLooked of.now wishes.now lines.old (length wishes.now) lines.new }
+    requires count { length lines.old.items ≡ length wishes.now }
+    requires said { All IsNoLook lines.old.items }
+    ensures { HaveLooked of.now wishes.now lines.old.items (length wishes.now) lines.new.items }
 {
     for at in 0..wishes.len() {
         put_look(alloc, of, &wishes[at], &mut lines[at]);

@@ -35,4 +35,4 @@ returns g c =
     (subst (λ (me : ℕ). AreLinesOf me worn (stamps_of of.history.items) place count said) (sym c.requires.site)
     (subst (λ (entries : List Entry). AreLinesOf client.site.0 worn (stamps_of entries) place count said) c.history.ensures
     (subst (λ (n : ℕ). AreLinesOf client.site.0 worn (stamps_of c.history.result.now) place n said) (c.len-requests.ensures ∙ client.requests.ok.0) c.in_ok-lines.ensures)))
-    (subst (λ (ws : List Wish). HaveLooked of ws said (length ws) c.lines.items) c.deref.ensures.value c.put_looks.ensures)
+    (subst (λ (ws : List Wish). HaveLooked of ws said (length ws) c.put_looks.new.lines.items) c.deref.ensures.value c.put_looks.ensures)
