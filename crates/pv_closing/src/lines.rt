@@ -108,12 +108,7 @@ fn lines_by<L: Log>(
 }
 
 // Puts what the client finds of the items that it looks at into the lines of all that it wants, which say nothing of looks yet.
-fn put_looks<L: Log>(
-    alloc: Global,
-    of: &SiteBox<L>,
-    wishes: &[Wish],
-    lines: &mut Vec<ClientLine>,
-)
+fn put_looks<L: Log>(alloc: Global, of: &SiteBox<L>, wishes: &[Wish], lines: &mut Vec<ClientLine>)
     requires stands { Stands of.now }
     requires here { All (IsHere of.now.site.catalog.items of.now.site.me) wishes.now }
     requires count { length lines.old.items ≡ length wishes.now }

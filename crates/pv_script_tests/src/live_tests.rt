@@ -33,10 +33,7 @@ const REFUSED: &[(&str, &str)] = &[
     ("sites 1\nsubmit", "line 2: wrong count"),
     ("sites 1\nclient 0\nquery \t", "line 3: wrong count"),
     ("sites 1\nquery (", "line 2: client expected"),
-    (
-        "sites 1\nitem a 0 0\npeek a",
-        "line 3: client expected",
-    ),
+    ("sites 1\nitem a 0 0\npeek a", "line 3: client expected"),
     ("sites 1\npeek", "line 2: wrong count"),
     (
         "sites 1\nitem a 0 0\nclient 0\npeek a a",
@@ -152,7 +149,8 @@ fn a_live_script_is_read(rt: HostRuntime) {
         panic!(rt; "other clients");
     };
     assert!(rt; first.site == SiteId(1) && first.requests.len() == 3);
-    let [Wish::Do(_), Wish::Peek { number, item }, Wish::Do(last)] = first.requests.as_slice() else {
+    let [Wish::Do(_), Wish::Peek { number, item }, Wish::Do(last)] = first.requests.as_slice()
+    else {
         panic!(rt; "other wishes");
     };
     assert!(rt; *number == 1 && *item == ItemId(1) && last.number == 2);
