@@ -71,7 +71,7 @@ module _ {W : Type 0} (box : SiteBox W) (place : ℕ) (worn : Bool) (to : worn �
           let is = are.1 k line less in
           one-heard k (get_or client.requests.items k wish) (get_or lines k line) (get_or told k line) is.0 is.1 (looked.told k wish line less),
     ),
-    looks-in-order box place told (λ k line peek less is. looked.last k line peek (omega (arith, less, looked.count, are.0)) is),
+    looks-in-order box place client.requests.items lines told looked are.0,
   )
 
 -- ## Places

@@ -6,6 +6,7 @@ use Rattle.pv_law_passing.specs.Asking.{asked_by}
 use Rattle.pv_model.specs.LiveScript as model
 use Rattle.pv_rings.specs.Rings.{Each}
 use Rattle.pv_script.specs.LiveView.{request_of, requests_by}
+use Rattle.pv_script.specs.declared.line.Line as script
 use Rattle.pv_script.specs.declared.live.Client.{Client}
 use Rattle.pv_script.specs.declared.live.Request.{Request}
 use Rattle.pv_script.specs.declared.live.Wish.{Wish}
@@ -41,18 +42,19 @@ module _ {W : Type 0} (box : SiteBox W) (place : ℕ) where
   IsLineOf n (Do request) line = IsLineOfRequest n request line
   IsLineOf n (Peek number item) line = (line.request ≡ n) × IsPeeked box item.0 line.what
 
-  -- A line of the history for this client's request of this number stands among its first so many entries, if it stands in it.
+  -- The line of the history for this client's request of this number stands among its first so many entries.
   abbrev pub StandsWithin : (steps n : ℕ) → Type 0
   StandsWithin steps n =
       let asker : Asker = record { client = place; number = n } in
       (line : Line) → line_among asker (told_along box.site.me [] (history_in box)) ≡ Some line
       → line_among asker (told_along box.site.me [] (take steps (history_in box))) ≡ Some line
 
-  -- Each look of the client was after no fewer entries than each look before it, and after the line of each request before it.
+  -- Each look of the client was after no fewer entries than each look before it, and after each line of the history for a request before it.
   pub record AreInOrder (lines : List ClientLine) : Type 0 where
     pub rising : (j k : ℕ) (any : ClientLine) (one other : look.Peek) → j < k → k < length lines
         → (get_or lines j any).what ≡ what.Peek one → (get_or lines k any).what ≡ what.Peek other → one.steps ≤ other.steps
-    pub behind : (j k : ℕ) (any : ClientLine) (peek : look.Peek) → j < k → k < length lines → (get_or lines k any).what ≡ what.Peek peek → StandsWithin peek.steps j
+    pub behind : (j k : ℕ) (any : ClientLine) (said : script.Line) (peek : look.Peek) → j < k → k < length lines
+        → (get_or lines j any).what ≡ what.Line said → (get_or lines k any).what ≡ what.Peek peek → StandsWithin peek.steps j
 
   -- What that client hears of all that it wants, in order.
   abbrev pub HearsAll : Client → List ClientLine → Type 0

@@ -1,5 +1,5 @@
 -- What a history says of what a client wants.
-use Rattle.std.specs.Prelude.{◌≡◌, ℕ, ◌<◌, ◌≤◌, Some, None, List, get_or, length, ⊤}
+use Rattle.std.specs.Prelude.{◌≡◌, ℕ, ◌<◌, ◌≤◌, Bool, true, false, Some, None, List, [], ◌∷◌, get_or, length, take, ⊤}
 use Rattle.pv_law_histories.specs.Peeks.{reading_after}
 use Rattle.pv_protocol.specs.Report.{Reading, cases, locked, down}
 use Rattle.pv_script.specs.LineView.{line_of}
@@ -49,11 +49,23 @@ IsLineFor box (Peek number item) said told = (told.request ≡ said.request) × 
 abbrev pub IsNoLook : ClientLine → Type 0
 IsNoLook line = (peek : look.Peek) → line.what ≡ what.Peek peek → ⊥
 
--- In these lines of all that a client wants stands what it finds of the items among the first so many, at the end of its site's history. Before they said nothing of looks.
+-- Whether any of these is a request.
+abbrev pub has_request : List Wish → Bool
+has_request [] = false
+has_request (Do request ∷ wishes) = true
+has_request (Peek number item ∷ wishes) = has_request wishes
+
+-- after how many entries of its site's history a client looks when the run is closed: where it has asked for nothing before, after none, and else after all
+abbrev pub looked_after : {W : Type 0} → SiteBox W → Bool → ℕ
+looked_after box false = 0
+looked_after box true = length (history_in box)
+
+-- In these lines of all that a client wants stands what it finds of the items among the first so many. Before they said nothing of looks.
 pub record HaveLooked {W : Type 0} (box : SiteBox W) (wishes : List Wish) (said : List ClientLine) (at : ℕ) (lines : List ClientLine) : Type 0 where
   pub count : length lines ≡ length said
   pub told : (k : ℕ) (wish : Wish) (line : ClientLine) → k < at → IsLineFor box (get_or wishes k wish) (get_or said k line) (get_or lines k line)
-  pub last : (k : ℕ) (line : ClientLine) (peek : look.Peek) → k < at → (get_or lines k line).what ≡ what.Peek peek → peek.steps ≡ length (history_in box)
+  pub steps : (k : ℕ) (line : ClientLine) (peek : look.Peek) → k < at → (get_or lines k line).what ≡ what.Peek peek
+      → peek.steps ≡ looked_after box (has_request (take k wishes))
   pub left : (k : ℕ) (line : ClientLine) → at ≤ k → get_or lines k line ≡ get_or said k line
 
 -- It is no line of the history.

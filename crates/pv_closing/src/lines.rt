@@ -1,10 +1,10 @@
 // The lines of clients.
-ghost use Rattle.std.specs.Prelude.{◌≡◌, ◌==◌, ◌≤◌, ℕ, ◌+◌, ◌<◌, ◌^◌, All, IfOk, IsTrue, get_or, if◌then◌else◌, length, take};
+ghost use Rattle.std.specs.Prelude.{◌≡◌, ◌==◌, ◌≤◌, ◌||◌, [], ◌∷◌, ℕ, ◌+◌, ◌<◌, ◌^◌, All, IfOk, IsTrue, get_or, if◌then◌else◌, length, take};
 ghost use Rattle.pv_base.specs.declared.limits.TheConstants.{MAX_CLIENTS};
 ghost use Rattle.pv_cell.specs.Box.{course_site};
 ghost use Rattle.pv_closing.specs.Boxes.{IsClosedBox, Stands, history_in};
 ghost use Rattle.pv_closing.specs.Clients.{AreTold, HearsAll};
-ghost use Rattle.pv_closing.specs.Lines.{HaveLooked, IsLineFor, IsNoLook, IsPeeked, reading_of};
+ghost use Rattle.pv_closing.specs.Lines.{HaveLooked, IsLineFor, IsNoLook, IsPeeked, has_request, looked_after, reading_of};
 ghost use Rattle.pv_law_histories.specs.Peeks.{reading_in};
 ghost use Rattle.pv_opening.specs.Counts.{count_at};
 ghost use Rattle.pv_opening.specs.Opening.{IsHere, IsRead};
@@ -13,12 +13,12 @@ ghost use Rattle.pv_shelf.specs.declared.peek.Peek.{Peek};
 ghost use Rattle.pv_site.specs.SiteState.{setup_of};
 ghost use Rattle.pv_told.specs.declared.line.ClientWhat.TheVariants as what;
 
-use pv_base::{ItemId, NoMemory, SiteId};
+use pv_base::{Catalog, ItemId, NoMemory, SiteId};
 use pv_cell::SiteBox;
 use pv_disk::Log;
 use pv_opening::live_scripts_are_small;
 use pv_script::{Client, LiveScript, Wish};
-use pv_shelf::{Face, Peek};
+use pv_shelf::{Face, Peek, sure_face};
 use pv_site::{Shown, Site};
 use pv_told::{ClientLine, ClientWhat, lines_of_client};
 use std::alloc::Global;
@@ -41,7 +41,7 @@ pub fn lines_of<L: Log>(
         let place = place_of(clients, at);
         let client = &clients[at];
         let site = client.site.0 as usize;
-        let heard = lines_by(alloc, &boxes[site], place, client)?;
+        let heard = lines_by(alloc, &boxes[site], &script.catalog, place, client)?;
         lines.push(heard)?;
     }
     Ok(lines)
@@ -85,9 +85,11 @@ fn counted(count: u32, client: &Client, site: SiteId) -> u32
 fn lines_by<L: Log>(
     alloc: Global,
     of: &SiteBox<L>,
+    catalog: &Catalog,
     place: u32,
     client: &Client,
 ) -> Result<Vec<ClientLine>, NoMemory>
+    requires catalog { of.now.site.catalog ≡ catalog.now }
     requires site { of.now.site.me ≡ client.now.site.0 }
     requires few { length client.now.requests.items < 2 ^ 32 }
     requires stands { Stands of.now }
@@ -103,7 +105,7 @@ fn lines_by<L: Log>(
         place,
         wishes,
     )?;
-    put_looks(alloc, of, &client.requests, &mut lines);
+    put_looks(alloc, of, catalog, &client.requests, &mut lines);
     Ok(lines)
 }
 
@@ -115,21 +117,63 @@ fn put_looks<L: Log>(alloc: Global, of: &SiteBox<L>, wishes: &[Wish], lines: &mu
     requires said { All IsNoLook lines.old.items }
     ensures { HaveLooked of.now wishes.now lines.old.items (length wishes.now) lines.new.items }
 {
+    let mut asked = false;
     for at in 0..wishes.len() {
-        put_look(alloc, of, &wishes[at], &mut lines[at]);
+        put_look(alloc, of, catalog, asked, &wishes[at], &mut lines[at]);
+        asked = asks(asked, &wishes[at]);
+    }
+}
+
+// Whether anything was asked for, when the client has come to this too.
+fn asks(asked: bool, wish: &Wish) -> bool
+    ensures { result ≡ asked || has_request (wish.now ∷ []) }
+{
+    match wish {
+        Wish::Do(_) => true,
+        Wish::Peek { .. } => asked,
     }
 }
 
 // Puts what the client finds of an item into its line, where it looks at one.
-fn put_look<L: Log>(alloc: Global, of: &SiteBox<L>, wish: &Wish, line: &mut ClientLine)
+fn put_look<L: Log>(
+    alloc: Global,
+    of: &SiteBox<L>,
+    catalog: &Catalog,
+    asked: bool,
+    wish: &Wish,
+    line: &mut ClientLine,
+)
+    requires catalog { of.now.site.catalog ≡ catalog.now }
     requires stands { Stands of.now }
     requires here { IsHere of.now.site.catalog.items of.now.site.me wish.now }
     requires said { IsNoLook line.old }
     ensures told { IsLineFor of.now wish.now line.old line.new }
-    ensures last { (peek : Peek) → line.new.what ≡ what.Peek peek → peek.steps ≡ length (history_in of.now) }
+    ensures steps { (peek : Peek) → line.new.what ≡ what.Peek peek → peek.steps ≡ looked_after of.now asked }
 {
     if let Wish::Peek { item, .. } = wish {
-        line.what = look(alloc, of, *item);
+        line.what = if asked {
+            look(alloc, of, *item)
+        } else {
+            first_look(alloc, of, catalog, *item)
+        };
+    }
+}
+
+// What a client finds of an item of its site before it asks for anything: what was declared.
+fn first_look<L: Log>(
+    alloc: Global,
+    of: &SiteBox<L>,
+    catalog: &Catalog,
+    item: ItemId,
+) -> ClientWhat
+    requires catalog { of.now.site.catalog ≡ catalog.now }
+    requires item { IsTrue (is_home of.now.site.catalog of.now.site.me item.0) }
+    ensures peeked { IsPeeked of.now item.0 result }
+    ensures steps { (peek : Peek) → result ≡ what.Peek peek → peek.steps ≡ 0 }
+{
+    match sure_face(alloc, catalog.declared(item)) {
+        Ok(face) => ClientWhat::Peek(Peek { steps: 0, face }),
+        Err(_) => ClientWhat::NoMemory,
     }
 }
 

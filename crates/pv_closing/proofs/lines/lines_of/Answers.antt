@@ -65,6 +65,16 @@ lines_by-requires-clause-here g c =
     (subst (λ (catalog : Declared). All (IsHere catalog.items client.site.0) client.requests.items) (sym (c.requires.closed client.site.0 box there).catalog_is)
     (this-looks c.live_scripts_are_small.ensures.here script c.requires.script c.loop-at.at client c.index-client.ensures within))
 
+pub lines_by-requires-clause-catalog : goal.lines_by-requires-clause-catalog
+lines_by-requires-clause-catalog g c =
+    let script = c.args.script.now in
+    let client = c.index-client.result.now in
+    let box = c.index-boxes-site.result in
+    let within : c.loop-at.at < length script.clients.items = omega (arith, c.loop-at-test.true, c.len-at-end.ensures, script.clients.ok.0) in
+    let there : client.site.0 < length c.args.boxes.now =
+    omega (arith, (this-fits c.live_scripts_are_small.ensures.fit script c.requires.script c.loop-at.at client c.index-client.ensures within).0, c.requires.count) in
+    subst (λ (one : SiteBox _). one.site.catalog ≡ script.catalog) (sym c.index-boxes-site.is) (c.requires.closed client.site.0 box there).catalog_is
+
 pub lines_by-requires-clause-few : goal.lines_by-requires-clause-few
 lines_by-requires-clause-few g c =
     let script = c.args.script.now in
