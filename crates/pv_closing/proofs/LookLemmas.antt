@@ -125,9 +125,6 @@ module _ {W : Type 0} (box : SiteBox W) (place : ℕ) (wishes : List Wish) (said
   line-of_request (Do request) before told line is found = (request, refl)
   line-of_request (wish.Peek number item) before told line is found = absurd (subst (λ (w : ClientWhat). IsPeeked box item.0 w) is found.1)
 
-  as-looked : (k : ℕ) (asked : Bool) (steps : ℕ) → has_request (take k wishes) ≡ asked → steps ≡ looked_after box (has_request (take k wishes)) → steps ≡ looked_after box asked
-  as-looked k asked steps is at = at ∙ ap (looked_after box) is
-
   -- Looks come in order, and after the lines before them.
   pub looks-in-order : AreInOrder box place lines
   looks-in-order = record {
