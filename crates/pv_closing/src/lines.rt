@@ -110,7 +110,14 @@ fn lines_by<L: Log>(
 }
 
 // Puts what the client finds of the items that it looks at into the lines of all that it wants, which say nothing of looks yet.
-fn put_looks<L: Log>(alloc: Global, of: &SiteBox<L>, wishes: &[Wish], lines: &mut Vec<ClientLine>)
+fn put_looks<L: Log>(
+    alloc: Global,
+    of: &SiteBox<L>,
+    catalog: &Catalog,
+    wishes: &[Wish],
+    lines: &mut Vec<ClientLine>,
+)
+    requires catalog { of.now.site.catalog ≡ catalog.now }
     requires stands { Stands of.now }
     requires here { All (IsHere of.now.site.catalog.items of.now.site.me) wishes.now }
     requires count { length lines.old.items ≡ length wishes.now }
@@ -160,12 +167,7 @@ fn put_look<L: Log>(
 }
 
 // What a client finds of an item of its site before it asks for anything: what was declared.
-fn first_look<L: Log>(
-    alloc: Global,
-    of: &SiteBox<L>,
-    catalog: &Catalog,
-    item: ItemId,
-) -> ClientWhat
+fn first_look<L: Log>(alloc: Global, of: &SiteBox<L>, catalog: &Catalog, item: ItemId) -> ClientWhat
     requires catalog { of.now.site.catalog ≡ catalog.now }
     requires item { IsTrue (is_home of.now.site.catalog of.now.site.me item.0) }
     ensures peeked { IsPeeked of.now item.0 result }
