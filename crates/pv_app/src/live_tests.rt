@@ -160,6 +160,21 @@ fn a_transfer_is_run_live(rt: HostRuntime) -> Result<(), Fail> {
     assert_answers(&rt, schedule, answers)
 }
 
+// A client of a site that does nothing looks at its item.
+const LOOK: &str = "sites 1\nitem a 0 7\nclient 0\npeek a\n";
+
+#[test]
+fn an_item_is_looked_at(rt: HostRuntime) -> Result<(), Fail> {
+    let mut bay = bay_of_empty(rt.alloc(), 1)?;
+    let (status, text) = live(&rt, "1", LOOK.as_bytes(), &mut bay, &IdleGate)?;
+    assert_eq!(rt; status, Status::Done);
+    let Some((_, clients, _)) = parts_of(&text) else {
+        rt.abort();
+    };
+    assert_eq!(rt; clients, "client 0 0 peek 0 7");
+    Ok(())
+}
+
 #[test]
 fn three_clients_move_among_four_sites(rt: HostRuntime) -> Result<(), Fail> {
     let alloc = rt.alloc();

@@ -15,7 +15,7 @@ use Rattle.pv_audit.specs.Traces as model
 use Rattle.pv_audit.specs.Traces.{AreParts, IsTrace, Trace, TracePart}
 use Rattle.pv_base.specs.Catalog.{Declared, Item}
 use Rattle.pv_model.specs.LineCauses.{Before}
-use Rattle.pv_model.specs.Schedule.{Declares, DeclaresClient, DeclaresItem, DeclaresJournal, DeclaresPlan, DeclaresRequest, DeclaresSites}
+use Rattle.pv_model.specs.Schedule.{Declares, DeclaresClient, DeclaresItem, DeclaresJournal, DeclaresPeek, DeclaresPlan, DeclaresRequest, DeclaresSites}
 use Rattle.pv_model.specs.Text.{TextLine, lines, parts_that_are_lines}
 use Rattle.pv_protocol.specs.Lines.{Line}
 use Rattle.pv_script.specs.declared.lines.TheConstants.{MAX_SCHEDULE}
@@ -87,7 +87,10 @@ more-items before after line declares =
     (λ (plan : DeclaresPlan before line after). same plan.same refl)
     (λ others. ⊎_elim
     (λ (client : DeclaresClient before line after). same client.same refl)
+    (λ others. ⊎_elim
     (λ (request : DeclaresRequest before line after). same request.same refl)
+    (λ (peek : DeclaresPeek before line after). same peek.same refl)
+    others)
     others)
     others)
     others)

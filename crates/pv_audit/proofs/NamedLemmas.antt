@@ -77,7 +77,8 @@ named-after before after line (inr (inr (inl x))) named =
     }
 named-after before after line (inr (inr (inr (inl x)))) named = same-items _ (declared_by after) (ap (λ (b : Before). b.items) (sym x.same)) named
 named-after before after line (inr (inr (inr (inr (inl x))))) named = same-items _ (declared_by after) (ap (λ (b : Before). b.items) (sym x.same)) named
-named-after before after line (inr (inr (inr (inr (inr x))))) named = same-items _ (declared_by after) (ap (λ (b : Before). b.items) (sym x.same)) named
+named-after before after line (inr (inr (inr (inr (inr (inl x)))))) named = same-items _ (declared_by after) (ap (λ (b : Before). b.items) (sym x.same)) named
+named-after before after line (inr (inr (inr (inr (inr (inr x)))))) named = same-items _ (declared_by after) (ap (λ (b : Before). b.items) (sym x.same)) named
 
 named-lines : {before last : Before} {lines : List TextLine} {events : List Event} → AreLines before lines events last → AreNamed (declared_by before) → AreNamed (declared_by last)
 named-lines (none before) named = named

@@ -66,7 +66,8 @@ begun-after before after line (inr (inl x)) begun = ap (λ (b : Before). b.begun
 begun-after before after line (inr (inr (inl x))) begun = ap (λ (b : Before). b.begun) x.same ∙ begun
 begun-after before after line (inr (inr (inr (inl x)))) begun = ap (λ (b : Before). b.begun) x.same ∙ begun
 begun-after before after line (inr (inr (inr (inr (inl x))))) begun = ap (λ (b : Before). b.begun) x.same
-begun-after before after line (inr (inr (inr (inr (inr x))))) begun = ap (λ (b : Before). b.begun) x.same ∙ begun
+begun-after before after line (inr (inr (inr (inr (inr (inl x)))))) begun = ap (λ (b : Before). b.begun) x.same ∙ begun
+begun-after before after line (inr (inr (inr (inr (inr (inr x)))))) begun = ap (λ (b : Before). b.begun) x.same ∙ begun
 
 -- Nothing printed comes first behind entries that are parts behind an event, where nothing does behind them.
 quiet-first : {before last : Before} {entries : List Entry} {parts : List TracePart} → AreParts before entries parts last → before.begun ≡ true → (rest : List Entry)

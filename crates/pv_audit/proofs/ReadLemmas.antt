@@ -121,7 +121,8 @@ declares-early before after line kind behind (inr (inl x)) begun = both_ways bef
 declares-early before after line kind behind (inr (inr (inl x))) begun = both_ways before.begun x.early (ap (λ (b : Before). b.begun) (sym x.same) ∙ begun)
 declares-early before after line kind behind (inr (inr (inr (inl x)))) begun = kinds-differ (sym kind ∙ x.kind)
 declares-early before after line kind behind (inr (inr (inr (inr (inl x))))) begun = kinds-differ (sym kind ∙ x.kind)
-declares-early before after line kind behind (inr (inr (inr (inr (inr x))))) begun = kinds-differ (sym kind ∙ x.kind)
+declares-early before after line kind behind (inr (inr (inr (inr (inr (inl x)))))) begun = kinds-differ (sym kind ∙ x.kind)
+declares-early before after line kind behind (inr (inr (inr (inr (inr (inr x)))))) begun = kinds-differ (sym kind ∙ x.kind)
 
 -- Lines of a schedule say nothing else.
 pub same-script : {start last : Before} {entries : List Entry} {parts : List TracePart} → AreParts start entries parts last → last.script ≡ start.script

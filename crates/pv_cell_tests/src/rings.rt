@@ -1,7 +1,7 @@
 // What goes through the rings of a box.
 use pv_mail::{Answer, Parcel};
 use pv_post::{In, Out};
-use pv_script::{MAX_SCHEDULE, Request, read_live};
+use pv_script::{MAX_SCHEDULE, Request, Wish, read_live};
 use std::alloc::Global;
 use std::test::Fail;
 
@@ -70,8 +70,8 @@ fn request_in(alloc: Global, script: &[u8]) -> Result<Request, Fail> {
         return Err("a script has a client".into());
     };
     match client.requests.pop() {
-        Some(request) => Ok(request),
-        None => Err("the client asks for something".into()),
+        Some(Wish::Do(request)) => Ok(request),
+        _ => Err("the client asks for something".into()),
     }
 }
 

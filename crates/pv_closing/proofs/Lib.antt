@@ -1,4 +1,5 @@
 pub mod AskedLemmas
 pub mod ClosingLemmas
 pub mod LineLemmas
+mod LookLemmas
 pub mod StandLemmas

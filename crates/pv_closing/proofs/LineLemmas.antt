@@ -1,5 +1,5 @@
 -- What clients hear by the boxes of their sites.
-use Rattle.std.proofs.Common.{◌≡◌, ℕ, ◌+◌, ◌<◌, ◌≤◌, ◌==◌, Bool, true, false, List, [], ◌∷◌, ◌++◌, length, get_or, take, sym, ap, ◌∙◌, subst, arith, if◌then◌else◌}
+use Rattle.std.proofs.Common.{◌≡◌, ℕ, ◌+◌, ◌<◌, ◌≤◌, ◌==◌, Bool, true, false, List, [], ◌∷◌, ◌++◌, All, length, get_or, take, sym, ap, ◌∙◌, subst, arith, if◌then◌else◌}
 use Rattle.std.proofs.Math.ListN.{get_or-append}
 use Rattle.std.proofs.Math.Seq.{get_or-append_seam}
 use Rattle.std.proofs.lemmas.List.{length-append}
@@ -16,7 +16,8 @@ use Rattle.pv_rings.proofs.EachLemmas.{get_or-any}
 use Rattle.pv_script.specs.LineView.{line_of}
 use Rattle.pv_script.specs.declared.live.Client.{Client}
 use Rattle.pv_script.specs.declared.live.LiveScript.{LiveScript}
-use Rattle.pv_script.specs.declared.live.Request.{Request}
+use Rattle.pv_script.specs.declared.live.Wish.{Wish}
+use Rattle.pv_script.specs.declared.live.Wish.TheVariants.{Do, Peek}
 use Rattle.pv_told.specs.Lines.{AreLinesOf, IsSaid}
 use Rattle.pv_told.specs.declared.line.ClientLine.{ClientLine}
 use Rattle.pv_told.specs.declared.line.ClientWhat.{ClientWhat}
@@ -24,11 +25,12 @@ use Rattle.pv_told.specs.declared.line.ClientWhat.TheVariants as what
 use Rattle.pv_cell.specs.Box.{IsWorn}
 use Rattle.pv_cell.specs.declared.site_box.SiteBox.{SiteBox}
 use Rattle.pv_closing.proofs.AskedLemmas.{no-line}
+use Rattle.pv_closing.proofs.LookLemmas.{looks-in-order}
 use Rattle.pv_closing.specs.Boxes.{history_in}
 use Rattle.pv_opening.specs.Counts.{count_at}
-use Rattle.pv_opening.specs.Opening.{IsRead}
-use Rattle.pv_closing.specs.Clients.{AreTold, IsTold}
-use Rattle.pv_closing.specs.Lines.{IsHeard, IsUntold}
+use Rattle.pv_opening.specs.Opening.{IsHere, IsRead}
+use Rattle.pv_closing.specs.Clients.{AreTold, HearsAll, IsTold}
+use Rattle.pv_closing.specs.Lines.{HaveLooked, IsHeard, IsLineFor, IsUntold}
 
 some-none : {A : Type 0} (x : A) → Some x ≡ None → ⊥
 some-none x is = absurd cc
@@ -40,23 +42,36 @@ module _ {W : Type 0} (box : SiteBox W) (place : ℕ) (worn : Bool) (to : worn �
   -- What the box's site's history says is what is heard.
   heard : (asker : Asker) (w : ClientWhat) → IsSaid box.site.me worn (history_in box) asker w → IsHeard box asker w
   heard asker (what.Line one) is = is
+  heard asker (what.Peek peek) is = absurd is
   heard asker what.Worn is = (is.0, to is.1)
   heard asker what.NoMemory is = (is.0, λ down. true-false worn (from down) is.1)
 
   untold : (n : ℕ) (w : ClientWhat) → IsSaid box.site.me worn (history_in box) (record { client = place; number = n }) w
       → ((asked : model.Request) → Contains (asked_by place (history_in box)) asked → asked.number ≡ n → ⊥) → IsUntold w
   untold n (what.Line one) is none = some-none (line_of one) (sym is ∙ no-line box.site.me place n (history_in box) none)
+  untold n (what.Peek peek) is none = absurd is
   untold n what.Worn is none = tt
   untold n what.NoMemory is none = tt
 
-  -- So it is of all requests of a client.
-  pub all-told : (requests : List Request) (lines : List ClientLine) → AreLinesOf box.site.me worn (history_in box) place (length requests) lines
-      → Each (IsTold box place) requests lines
-  all-told requests lines are = (
-    sym are.0,
-    λ k request one less.
-        let is = are.1 k one less in
-        (is.0, heard (record { client = place; number = k }) (get_or lines k one).what is.1, untold k (get_or lines k one).what is.1),
+  -- So it is of a request, and of a look once its line is put in the place of what the history says.
+  pub one-heard : (k : ℕ) (wish : Wish) (line told : ClientLine) → line.request ≡ k → IsSaid box.site.me worn (history_in box) (record { client = place; number = k }) line.what
+      → IsLineFor box wish line told → IsTold box place k wish told
+  one-heard k (Do request) line told is said same =
+      let heard_line = (is, heard (record { client = place; number = k }) line.what said, untold k line.what said) in
+      subst (λ (one : ClientLine). IsTold box place k (Do request) one) (sym same) heard_line
+  one-heard k (Peek number item) line told is said found = (found.0 ∙ is, found.1)
+
+  -- So it is of all that a client wants, once looks are put among the lines of requests.
+  pub all-heard : (client : Client) (lines told : List ClientLine) → AreLinesOf box.site.me worn (history_in box) place (length client.requests.items) lines
+      → HaveLooked box client.requests.items lines (length client.requests.items) told → HearsAll box place client told
+  all-heard client lines told are looked = (
+    (
+      sym are.0 ∙ sym looked.count,
+      λ k wish line less.
+          let is = are.1 k line less in
+          one-heard k (get_or client.requests.items k wish) (get_or lines k line) (get_or told k line) is.0 is.1 (looked.told k wish line less),
+    ),
+    looks-in-order box place client.requests.items lines told looked are.0,
   )
 
 -- ## Places
@@ -86,10 +101,18 @@ pub this-fits : ((script : LiveScript) (k : ℕ) (any : Client) → IsRead scrip
 this-fits fit script read at client is within =
     subst (λ (one : Client). (one.site.0 < script.catalog.sites) × (length one.requests.items ≤ MAX_REQUESTS)) (sym is) (fit script at client read within)
 
+-- Each looks at items of its site alone.
+pub this-looks : ((script : LiveScript) (k : ℕ) (any : Client) → IsRead script → k < length script.clients.items
+    → All (IsHere script.catalog.items (get_or script.clients.items k any).site.0) (get_or script.clients.items k any).requests.items)
+    → (script : LiveScript) → IsRead script → (at : ℕ) (client : Client) → client ≡ get_or script.clients.items at client
+    → at < length script.clients.items → All (IsHere script.catalog.items client.site.0) client.requests.items
+this-looks here script read at client is within =
+    subst (λ (one : Client). All (IsHere script.catalog.items one.site.0) one.requests.items) (sym is) (here script at client read within)
+
 module _ {W : Type 0} (boxes : List (SiteBox W)) (clients : List Client) where
   abbrev IsOne : ℕ → Client → Vec ClientLine Global → Type 0
   IsOne k client lines =
-      (any : SiteBox W) → Each (IsTold (get_or boxes client.site.0 any) (count_at client.site.0 (take k clients))) client.requests.items lines.items
+      (any : SiteBox W) → HearsAll (get_or boxes client.site.0 any) (count_at client.site.0 (take k clients)) client lines.items
 
   -- So many clients have heard.
   abbrev pub AreToldTo : ℕ → List (Vec ClientLine Global) → Type 0
@@ -113,13 +136,13 @@ module _ {W : Type 0} (boxes : List (SiteBox W)) (clients : List Client) where
   -- One client has heard, by the box of its site.
   pub one-told : (at : ℕ) (client : Client) (box : SiteBox W) (place : ℕ) (lines : Vec ClientLine Global) → client ≡ get_or clients at client → at < length clients
       → box ≡ get_or boxes client.site.0 box → client.site.0 < length boxes
-      → ((any : Client) → place ≡ count_at (get_or clients at any).site.0 (take at clients)) → Each (IsTold box place) client.requests.items lines.items
+      → ((any : Client) → place ≡ count_at (get_or clients at any).site.0 (take at clients)) → HearsAll box place client lines.items
       → (any : Client) → IsOne at (get_or clients at any) lines
   one-told at client box place lines is within box_is there places told any =
       subst (λ (c : Client). IsOne at c lines) (is ∙ get_or-any clients at any client within)
-      (λ other. subst (λ (b : SiteBox W). Each (IsTold b (count_at client.site.0 (take at clients))) client.requests.items lines.items)
+      (λ other. subst (λ (b : SiteBox W). HearsAll b (count_at client.site.0 (take at clients)) client lines.items)
       (box_is ∙ get_or-any boxes client.site.0 other box there)
-      (subst (λ (p : ℕ). Each (IsTold box p) client.requests.items lines.items) (places client ∙ ap (λ (c : Client). count_at c.site.0 (take at clients)) (sym is)) told))
+      (subst (λ (p : ℕ). HearsAll box p client lines.items) (places client ∙ ap (λ (c : Client). count_at c.site.0 (take at clients)) (sym is)) told))
 
   pub all-are-told : (lines : List (Vec ClientLine Global)) → AreToldTo (length clients) lines → AreTold boxes clients lines
   all-are-told lines are = (sym are.0, λ k client heard less any. are.1 k client heard less any)

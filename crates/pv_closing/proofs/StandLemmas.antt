@@ -17,7 +17,7 @@ use Rattle.pv_post.specs.declared.outlet.Out.{Out}
 use Rattle.pv_rings.specs.Rings.{Each}
 use Rattle.pv_rings.proofs.EachLemmas.{get_or-any, each-self, each-set}
 use Rattle.pv_rings.proofs.RingLemmas.{rests-self}
-use Rattle.pv_script.specs.LiveView.{request_of}
+use Rattle.pv_script.specs.LiveView.{request_of, requests_by}
 use Rattle.pv_script.specs.declared.live.Client.{Client}
 use Rattle.pv_script.specs.declared.live.LiveScript.{LiveScript}
 use Rattle.pv_cell.specs.declared.site_box.SiteBox.{SiteBox}
@@ -190,7 +190,7 @@ module _ {W : Type 0} (M : LogModel W) (script : LiveScript) where
             let c = get_or clients k one in
             let is = stand.clients_are.1 k client one less in
             let ask = asks.1 k one one (subst (λ (n : ℕ). k < n) stand.clients_are.0 less) in (
-              subst (λ s. map request_of s.items ≡ map request_of (get_or script.clients.items k client).requests.items) (sym ask.0) is.0,
+              subst (λ s. map request_of s.items ≡ requests_by (get_or script.clients.items k client)) (sym ask.0) is.0,
               λ any. asks-any _ c (get_or ended k one) _ any ask (is.1 any),
             ),
       );

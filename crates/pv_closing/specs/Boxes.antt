@@ -15,6 +15,10 @@ module _ {W : Type 0} where
   abbrev pub history_in : SiteBox W → List Stamped
   history_in box = stamps_of box.history.items
 
+  -- The site stands where its history leaves it.
+  abbrev pub Stands : SiteBox W → Type 0
+  Stands box = course_site box.site ≡ course (setup_of box.site.catalog) box.site.me first_site (history_in box)
+
 -- The box of the site of this number stands where its history leaves the site: with the same records, and with the same memory or down.
 pub record IsClosedBox {W : Type 0} (M : LogModel W) (catalog : Declared) (n : ℕ) (box : SiteBox W) : Type 0 where
   pub is_box : IsBox M box

@@ -3,7 +3,7 @@ use Rattle.std.specs.Prelude.{◌≡◌, ◌⊎◌, ℕ, ◌<◌, [], List, leng
 use Rattle.pv_base.specs.Catalog.{Declared}
 use Rattle.pv_disk_model.specs.LogModel.{LogModel}
 use Rattle.pv_rings.specs.Rings.{Each}
-use Rattle.pv_script.specs.LiveView.{request_of}
+use Rattle.pv_script.specs.LiveView.{request_of, requests_by}
 use Rattle.pv_script.specs.declared.live.Client.{Client}
 use Rattle.pv_script.specs.declared.live.LiveScript.{LiveScript}
 use Rattle.pv_cell.specs.Box.{IsBox, IsWorn}
@@ -25,7 +25,7 @@ module _ {W : Type 0} where
   -- It is what is left of the client at this place among its site's own: it asks for the client's requests, by a ring to its site's box.
   abbrev pub IsEndedOf : List (SiteBox W) → ℕ → Client → Ended → Type 0
   IsEndedOf boxes place client ended =
-      (map request_of ended.script.items ≡ map request_of client.requests.items) × ((any : SiteBox W) → AsksBox place ended.asks (get_or boxes client.site.0 any))
+      (map request_of ended.script.items ≡ requests_by client) × ((any : SiteBox W) → AsksBox place ended.asks (get_or boxes client.site.0 any))
 
   -- All sites have their boxes, in order, with a ring from each to each, on which messages fail as the script says; and all clients of the script, and no others, are
   -- there, in order, with rings on which none fails.

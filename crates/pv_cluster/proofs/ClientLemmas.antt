@@ -17,7 +17,7 @@ use Rattle.pv_opening.specs.Opened.{AsksBox}
 use Rattle.pv_post.specs.Ends.{posted, taken}
 use Rattle.pv_post.specs.declared.inlet.In.{In}
 use Rattle.pv_rings.proofs.EachLemmas.{get_or-any}
-use Rattle.pv_script.specs.LiveView.{request_of}
+use Rattle.pv_script.specs.LiveView.{request_of, requests_by}
 use Rattle.pv_script.specs.declared.live.Client.{Client}
 use Rattle.pv_script.specs.declared.live.LiveScript.{LiveScript}
 use Rattle.pv_script.specs.declared.live.Request.{Request}
@@ -55,11 +55,11 @@ module _ {W : Type 0} (M : LogModel W) (script : LiveScript) (boxes : List (Site
     (place : ℕ) (within : at < length script.clients.items) (is : client ≡ get_or script.clients.items at client) (ends : ended ≡ get_or clients at ended)
     (has : box ≡ get_or boxes client.site.0 box)
     (places : (any : Client) → place ≡ count_at (get_or script.clients.items at any).site.0 (take at script.clients.items)) where
-  asks-both : (map request_of ended.script.items ≡ map request_of client.requests.items) × AsksBox place ended.asks box
+  asks-both : (map request_of ended.script.items ≡ requests_by client) × AsksBox place ended.asks box
   asks-both =
       let there = stand.clients_are.1 at client ended within in (
-        subst (λ (c : Client). map request_of ended.script.items ≡ map request_of c.requests.items) (sym is)
-            (subst (λ (e : Ended). map request_of e.script.items ≡ map request_of (get_or script.clients.items at client).requests.items) (sym ends) there.0),
+        subst (λ (c : Client). map request_of ended.script.items ≡ requests_by c) (sym is)
+            (subst (λ (e : Ended). map request_of e.script.items ≡ requests_by (get_or script.clients.items at client)) (sym ends) there.0),
         subst (λ (b : SiteBox W). AsksBox place ended.asks b) (sym has)
             (subst (λ (c : Client). AsksBox place ended.asks (get_or boxes c.site.0 box)) (sym is)
             (subst (λ (e : Ended). AsksBox place e.asks (get_or boxes (get_or script.clients.items at client).site.0 box)) (sym ends)
@@ -83,9 +83,9 @@ module _ {W : Type 0} (M : LogModel W) (script : LiveScript) (boxes : List (Site
       let once = stands-once box place ended client (subst (λ (b : SiteBox W). HasCourse b) (sym has) whole.course) asks-both.1 began asks-both.0 in
       subst (λ (c : Client). StandsOnce first script.clients.items at c) (is ∙ get_or-any script.clients.items at any client within)
       (λ other.
-      subst (λ (p : ℕ). Sublist (asked_by p (stamps_of (get_or first client.site.0 other).history.items)) (map request_of client.requests.items))
+      subst (λ (p : ℕ). Sublist (asked_by p (stamps_of (get_or first client.site.0 other).history.items)) (requests_by client))
       (places client ∙ ap (λ (c : Client). count_at c.site.0 (take at script.clients.items)) (sym is))
-      (subst (λ (history : Vec Entry Global). Sublist (asked_by place (stamps_of history.items)) (map request_of client.requests.items))
+      (subst (λ (history : Vec Entry Global). Sublist (asked_by place (stamps_of history.items)) (requests_by client))
       (ap (λ (b : SiteBox W). b.history) has ∙ ap (λ (b : SiteBox W). b.history) (still.1 client.site.0 other box in_first).0) once))
 
   -- What it posted was taken from the ring, or its box is worn, as the boxes and clients were at first.

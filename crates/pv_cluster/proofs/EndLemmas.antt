@@ -32,7 +32,7 @@ use Rattle.pv_opening.specs.Opened.{FailsBy, plan_in}
 use Rattle.pv_opening.specs.Opening.{IsRead}
 use Rattle.pv_post.specs.Ends.{posted}
 use Rattle.pv_post.specs.declared.inlet.In.{In}
-use Rattle.pv_script.specs.LiveView.{request_of}
+use Rattle.pv_script.specs.LiveView.{request_of, requests_by}
 use Rattle.pv_script.specs.declared.live.Client.{Client}
 use Rattle.pv_script.specs.declared.live.LiveScript.{LiveScript}
 use Rattle.pv_script.specs.declared.live.Request.{Request}
@@ -129,10 +129,8 @@ module _ {W : Type 0} (M : LogModel W) (script : LiveScript) (read : IsRead scri
     pub last-count : length last ≡ script.catalog.sites
     last-count = stands.count
 
-    pub last-numbers : (n : ℕ) (any : SiteBox W) → n < length last → (get_or last n any).site.me ≡ n
-    last-numbers n any less = (stands.boxes_are n any less).number
-
-    closed-last : (n : ℕ) (any : SiteBox W) → n < length last → IsClosedBox M script.catalog n (get_or last n any)
+    -- Each of them is closed where its history leaves it.
+    pub closed-last : (n : ℕ) (any : SiteBox W) → n < length last → IsClosedBox M script.catalog n (get_or last n any)
     closed-last n any less =
         let there : n < length was.round = subst (λ (m : ℕ). n < m) (sym still.0) less in
         closed-still M script.catalog n (get_or was.round n any) (get_or last n any) lent_box (still.1 n any any there) (was.closed n any there)
@@ -148,7 +146,7 @@ module _ {W : Type 0} (M : LogModel W) (script : LiveScript) (read : IsRead scri
         → IsWorn (get_or last (get_or script.clients.items k client).site.0 any)
         ⊎ (asked_along (get_or last (get_or script.clients.items k client).site.0 any)
         (count_at (get_or script.clients.items k client).site.0 (take k script.clients.items)) inlet
-        ≡ map request_of (get_or script.clients.items k client).requests.items)
+        ≡ requests_by (get_or script.clients.items k client))
     client-asked k client ended any inlet less asked taken_all =
         let one = get_or script.clients.items k client in
         let asking = get_or was.asking k ended in
@@ -179,11 +177,11 @@ module _ {W : Type 0} (M : LogModel W) (script : LiveScript) (read : IsRead scri
           let same : (get_or last one.site.0 any).history ≡ (get_or was.round one.site.0 any).history =
           ap (λ (box : SiteBox W). box.history) (still.1 one.site.0 any any there).0 in
           let place = count_at one.site.0 (take k script.clients.items) in
-          let stays : Sublist (asked_by place (stamps_of (get_or last one.site.0 any).history.items)) (map request_of one.requests.items) =
-          subst (λ (history : Vec Entry Global). Sublist (asked_by place (stamps_of history.items)) (map request_of one.requests.items)) (sym same)
+          let stays : Sublist (asked_by place (stamps_of (get_or last one.site.0 any).history.items)) (requests_by one) =
+          subst (λ (history : Vec Entry Global). Sublist (asked_by place (stamps_of history.items)) (requests_by one)) (sym same)
           (was.once k client less any) in
-          serves (get_or last one.site.0 any) place one stays (λ n request within. numbers-are script read k client less n request within) (get_or lines k heard).items
-          (told.1 k client heard less any),
+          let its = told.1 k client heard less any in
+          serves (get_or last one.site.0 any) place one stays (λ n wish within. numbers-are script read k client less n wish within) (get_or lines k heard).items its.0 its.1,
     )
 
     pub ends : (lines : List (Vec ClientLine Global)) → AreTold last script.clients.items lines → (closed : Closed W) → closed.boxes.items ≡ last

@@ -7,10 +7,10 @@ use Rattle.std.specs.Prelude.{Contains}
 use mathlib.Core.List.{IsPrefix, Sublist, Sublistᴰ, sublist-append_left}
 use mathlib.Core.List.Sublistᴰ as derived
 use mathlib.Core.List.Sublist.{trans as sublist-trans}
-use Rattle.pv_base.proofs.ContainsLemmas.{Contains-behind, Contains-cases, Contains-first}
+use Rattle.pv_base.proofs.ContainsLemmas.{Contains-behind, Contains-cases, Contains-first, Contains-nil}
 use Rattle.pv_cell.specs.Course.{HasCourse, asked_again}
 use Rattle.pv_cell.specs.declared.site_box.SiteBox.{SiteBox}
-use Rattle.pv_closing.specs.Clients.{IsServed, IsTold}
+use Rattle.pv_closing.specs.Clients.{AreInOrder, IsLineOf, IsServed, IsTold}
 use Rattle.pv_closing.specs.declared.ended.Ended.{Ended}
 use Rattle.pv_crew.specs.Messages.{once_each}
 use Rattle.pv_history.specs.Entries.{stamps_of}
@@ -21,9 +21,12 @@ use Rattle.pv_opening.specs.Opened.{AsksBox}
 use Rattle.pv_post.specs.Ends.{posted, taken}
 use Rattle.pv_post.specs.declared.inlet.In.{In}
 use Rattle.pv_rings.specs.Rings.{Each}
-use Rattle.pv_script.specs.LiveView.{request_of}
+use Rattle.pv_script.specs.LiveView.{request_of, requests_by, wish_of}
 use Rattle.pv_script.specs.declared.live.Client.{Client}
 use Rattle.pv_script.specs.declared.live.Request.{Request}
+use Rattle.pv_script.specs.declared.live.Wish.{Wish}
+use Rattle.pv_script.specs.declared.live.Wish.TheVariants.{Do, Peek}
+use Rattle.pv_rings.proofs.EachLemmas.{get_or-any}
 use Rattle.pv_told.specs.declared.line.ClientLine.{ClientLine}
 
 -- A beginning of messages that count once each is, with each as often as it counts, a beginning of the messages.
@@ -45,20 +48,20 @@ module _ {W : Type 0} (box : SiteBox W) (place : ℕ) (ended : Ended) (client : 
   -- Where a client asks by its ring, what it asks for stands once.
   pub stands-once : HasCourse box → AsksBox place ended.asks box
       → ((inlet : In Request) → IsPrefix (taken (get_or box.ends.clients_in.items place inlet)) (posted ended.asks))
-      → map request_of ended.script.items ≡ map request_of client.requests.items
-      → Sublist (asked_by place (stamps_of box.history.items)) (map request_of client.requests.items)
+      → map request_of ended.script.items ≡ requests_by client
+      → Sublist (asked_by place (stamps_of box.history.items)) (requests_by client)
   stands-once course asks began same =
       ⊎_elim (λ found. by found.0) (λ out. let past = out.0 in let there = asks.0 in absurd (omega (arith, past, there)))
       ((slice_get_cases box.ends.clients_in.items place).1)
     where
-      by : In Request → Sublist (asked_by place (stamps_of box.history.items)) (map request_of client.requests.items)
+      by : In Request → Sublist (asked_by place (stamps_of box.history.items)) (requests_by client)
       by inlet =
           let ring = get_or box.ends.clients_in.items place inlet in
           let front = began inlet in
           let left = once_each (reverse ended.left.items) in
           let begins = once-begins (taken ring) (front.0 ++ left) ended.script.items
           (sym (append_assoc (taken ring) front.0 left) ∙ ap (λ (all : List (Request × ℕ)). all ++ left) front.1 ∙ ended.in_order) in
-          let asked : requests_taken ring ++ map request_of begins.0 ≡ map request_of client.requests.items =
+          let asked : requests_taken ring ++ map request_of begins.0 ≡ requests_by client =
           sym (map-append request_of (counted (taken ring)) begins.0) ∙ ap (λ (all : List Request). map request_of all) begins.1 ∙ same in
           sublist-trans (sublist-append_left (asked_by place (stamps_of box.history.items)) (asked_again place box.again))
           (sublist-trans (subst (λ (all : List model.Request). Sublist (asked_by place (stamps_of box.history.items) ++ asked_again place box.again) all)
@@ -73,31 +76,54 @@ kept-in {A} (z ∷ xs) (y ∷ ys) x (derived.cons-cons same more) there =
     ⊎_elim (λ is. subst (λ (v : A). Contains (y ∷ ys) v) (sym same ∙ is) (Contains-first y ys)) (λ behind. Contains-behind y ys x (kept-in xs ys x more behind))
     (Contains-cases z xs x there)
 
-module _ {W : Type 0} (box : SiteBox W) (place : ℕ) (client : Client) (once : Sublist (asked_by place (stamps_of box.history.items)) (map request_of client.requests.items))
-    (numbers : (n : ℕ) (any : Request) → n < length client.requests.items → (get_or client.requests.items n any).number ≡ n) where
-  -- What stands in the history with the number of a request is that request.
-  the-one : (n : ℕ) (request : Request) → n < length client.requests.items → (asked : model.Request) → Contains (map request_of client.requests.items) asked
-      → asked.number ≡ n → asked ≡ request_of (get_or client.requests.items n request)
-  the-one n request less asked there is =
-      let k = there.0 in
-      let short : k < length client.requests.items = subst (λ (m : ℕ). k < m) (length-map client.requests.items request_of) there.1 in
-      let found : request_of (get_or client.requests.items k request) ≡ asked = sym (get_or-map request_of client.requests.items k request asked short) ∙ there.2 in
-      let same : k ≡ n = sym (numbers k request short) ∙ (ap (λ (r : model.Request). r.number) found ∙ is) in
-      sym found ∙ ap (λ (j : ℕ). request_of (get_or client.requests.items j request)) same
+-- What is among the requests is among all that is wanted.
+among-wishes : (wishes : List model.Wish) (asked : model.Request) → Contains (model.requests_among wishes) asked → Contains wishes (model.to_ask asked)
+among-wishes [] asked there = absurd (Contains-nil asked there)
+among-wishes (model.to_ask request ∷ wishes) asked there =
+    ⊎_elim
+    (λ same. subst (λ (r : model.Request). Contains (model.to_ask request ∷ wishes) (model.to_ask r)) same (Contains-first (model.to_ask request) wishes))
+    (λ behind. Contains-behind (model.to_ask request) wishes (model.to_ask asked) (among-wishes wishes asked behind))
+    (Contains-cases request (model.requests_among wishes) asked there)
+among-wishes (model.to_peek number item ∷ wishes) asked there =
+    Contains-behind (model.to_peek number item) wishes (model.to_ask asked) (among-wishes wishes asked there)
 
-  pub serves : (lines : List ClientLine) → Each (IsTold box place) client.requests.items lines → IsServed box place client lines
-  serves lines told = record {
+ask-inj : (one other : model.Request) → model.to_ask one ≡ model.to_ask other → one ≡ other
+ask-inj one other same = cc
+
+module _ {W : Type 0} (box : SiteBox W) (place : ℕ) (client : Client) (once : Sublist (asked_by place (stamps_of box.history.items)) (requests_by client))
+    (numbers : (n : ℕ) (any : Wish) → n < length client.requests.items → model.number_of (wish_of (get_or client.requests.items n any)) ≡ n) where
+  -- What stands in the history with the number of a request is that request.
+  the-one : (n : ℕ) (request : Request) → n < length client.requests.items → get_or client.requests.items n (Do request) ≡ Do request → (asked : model.Request)
+      → Contains (requests_by client) asked → asked.number ≡ n → asked ≡ request_of request
+  the-one n request less here asked there is =
+      let wishes = client.requests.items in
+      let at = among-wishes (map wish_of wishes) asked there in
+      let k = at.0 in
+      let short : k < length wishes = subst (λ (m : ℕ). k < m) (length-map wishes wish_of) at.1 in
+      let found : wish_of (get_or wishes k (Do request)) ≡ model.to_ask asked = sym (get_or-map wish_of wishes k (Do request) (model.to_ask asked) short) ∙ at.2 in
+      let same : k ≡ n = sym (numbers k (Do request) short) ∙ (ap model.number_of found ∙ is) in
+      ask-inj asked (request_of request) (sym found ∙ ap (λ (j : ℕ). wish_of (get_or wishes j (Do request))) same ∙ ap wish_of here)
+
+  -- The line of what is wanted, whatever that is.
+  line-of : (n : ℕ) (wish : Wish) (line : ClientLine) → n < length client.requests.items → get_or client.requests.items n wish ≡ wish → IsTold box place n wish line
+      → IsLineOf box place n wish line
+  line-of n (Do request) line less here is = record {
+    number = is.0;
+    heard = is.1;
+    lost = λ none. is.2 (λ asked there same. not_there once (λ left.
+        none (subst (λ (r : model.Request). Contains (asked_by place (stamps_of box.history.items)) r)
+        (the-one n request less here asked (kept-in (asked_by place (stamps_of box.history.items)) (requests_by client) asked left there) same) there)));
+  }
+  line-of n (Peek number item) line less here is = is
+
+  pub serves : (lines : List ClientLine) → Each (IsTold box place) client.requests.items lines → AreInOrder box place lines → IsServed box place client lines
+  serves lines told looks = record {
     lines_are = (
       told.0,
-      λ n request line less.
-          let is = told.1 n request line less in
-          record {
-            number = is.0;
-            heard = is.1;
-            lost = λ none. is.2 (λ asked there same. not_there once (λ left.
-                none (subst (λ (r : model.Request). Contains (asked_by place (stamps_of box.history.items)) r)
-                (the-one n request less asked (kept-in (asked_by place (stamps_of box.history.items)) (map request_of client.requests.items) asked left there) same) there)));
-          },
+      λ n any line less.
+          let wish = get_or client.requests.items n any in
+          line-of n wish (get_or lines n line) less (get_or-any client.requests.items n any wish less) (told.1 n any line less),
     );
+    looks = looks;
     once = once;
   }

@@ -21,7 +21,7 @@ use Rattle.pv_post.specs.declared.outlet.Out.{Out}
 use Rattle.pv_rings.proofs.EachLemmas.{each-trans}
 use Rattle.pv_rings.proofs.RingLemmas.{rests-self}
 use Rattle.pv_rings.specs.Rings.{Each}
-use Rattle.pv_script.specs.LiveView.{request_of}
+use Rattle.pv_script.specs.LiveView.{request_of, requests_by}
 use Rattle.pv_script.specs.declared.live.Client.{Client}
 use Rattle.pv_script.specs.declared.live.LiveScript.{LiveScript}
 use Rattle.pv_script.specs.declared.live.Request.{Request}
@@ -124,7 +124,7 @@ module _ {W : Type 0} (M : LogModel W) (script : LiveScript) (sites : List (Site
     left-client ended left k client one less within met =
         let is = opened.clients_are.1 k client met less in
         let goes = left.1 k met one within in (
-          subst (λ s. map request_of s.items ≡ map request_of (get_or script.clients.items k client).requests.items) (sym goes.0) is.0,
+          subst (λ s. map request_of s.items ≡ requests_by (get_or script.clients.items k client)) (sym goes.0) is.0,
           λ any. asks-still _ (get_or clients k met).asks (get_or ended k one).asks (get_or boxes (get_or script.clients.items k client).site.0 any) goes.1 (is.2 any),
         )
 

@@ -6,7 +6,7 @@ use Rattle.pv_disk_model.specs.LogModel.{LogModel}
 use Rattle.pv_law_histories.specs.Fitting.{CanAllBeDone, FitTogether}
 use Rattle.pv_law_passing.specs.Asking.{asked_by}
 use Rattle.pv_model.specs.LiveScript as model
-use Rattle.pv_script.specs.LiveView.{request_of}
+use Rattle.pv_script.specs.LiveView.{request_of, requests_by}
 use Rattle.pv_script.specs.declared.live.Client.{Client}
 use Rattle.pv_script.specs.declared.live.LiveScript.{LiveScript}
 use Rattle.pv_script.specs.declared.live.Request.{Request}
@@ -46,7 +46,7 @@ module _ {W : Type 0} where
       (k : ℕ) (client : Client) (any : SiteBox W) (inlet : In Request) → k < length clients
       → IsWorn (get_or boxes (get_or clients k client).site.0 any)
       ⊎ (asked_along (get_or boxes (get_or clients k client).site.0 any) (count_at (get_or clients k client).site.0 (take k clients)) inlet
-      ≡ map request_of (get_or clients k client).requests.items)
+      ≡ requests_by (get_or clients k client))
 
   -- At no site did anybody ask but these clients.
   abbrev pub NobodyElseAsked : List Client → List (SiteBox W) → Type 0

@@ -17,7 +17,7 @@ use Rattle.pv_opening.specs.Opened.{HasRing}
 use Rattle.pv_post.specs.Ends.{posted, taken}
 use Rattle.pv_post.specs.declared.inlet.In.{In}
 use Rattle.pv_rings.specs.Rings.{Each}
-use Rattle.pv_script.specs.LiveView.{request_of}
+use Rattle.pv_script.specs.LiveView.{requests_by}
 use Rattle.pv_script.specs.declared.live.Client.{Client}
 use Rattle.pv_script.specs.declared.live.LiveScript.{LiveScript}
 use Rattle.pv_script.specs.declared.live.Request.{Request}
@@ -51,7 +51,7 @@ module _ {W : Type 0} where
   abbrev pub StandsOnce : List (SiteBox W) → List Client → ℕ → Client → Type 0
   StandsOnce boxes clients k client =
       (any : SiteBox W)
-      → Sublist (asked_by (count_at client.site.0 (take k clients)) (history_in (get_or boxes client.site.0 any))) (map request_of client.requests.items)
+      → Sublist (asked_by (count_at client.site.0 (take k clients)) (history_in (get_or boxes client.site.0 any))) (requests_by client)
 
   -- So it is of the first so many clients.
   abbrev pub StandOnceTo : ℕ → List (SiteBox W) → List Client → Type 0

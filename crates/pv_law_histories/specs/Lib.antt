@@ -3,4 +3,5 @@ pub mod Examples
 pub mod Fitting
 pub mod History
 pub mod Merge
+pub mod Peeks
 pub mod Posting

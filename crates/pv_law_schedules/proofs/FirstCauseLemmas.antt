@@ -1,5 +1,5 @@
 -- A line that has a cause has a first one.
-use Rattle.std.proofs.Common.{◌≡◌, ◌⊎◌, ⊎_elim, ℕ, suc, ◌<◌, ◌≤◌, true, false, None, List, length, inl, inr, refl, sym, ap, subst, ◌∙◌, arith}
+use Rattle.std.proofs.Common.{◌≡◌, ◌⊎◌, ⊎_elim, ℕ, suc, ◌<◌, ◌≤◌, true, false, Option, Some, None, List, length, inl, inr, refl, sym, ap, subst, ◌∙◌, arith}
 use Rattle.std.specs.Prelude.{codes}
 use Rattle.std.specs.List.{list_all, Contains}
 use Rattle.std.proofs.lemmas.Bool.{false≢true}
@@ -7,14 +7,16 @@ use Rattle.pv_base.specs.declared.limits.TheConstants.{MAX_PROGRAM_ITEMS}
 use Rattle.pv_base.specs.Catalog.{place_of}
 use Rattle.pv_base.specs.Name.{is_name}
 use Rattle.pv_model.specs.LineCauses as causes
-use Rattle.pv_model.specs.LineCauses.{Before, or_default, last_requests, IsAsked, LineCause, line_cause_rank, HasLineCause, IsFirstCause, mode_words}
+use Rattle.pv_model.specs.LineCauses.{Before, or_default, last_requests, last_site, home_of, IsAsked, LineCause, line_cause_rank, HasLineCause, IsFirstCause, mode_words}
 use Rattle.pv_model.specs.Check.{names_item, has_assignment, has_return}
-use Rattle.pv_model.specs.LineForms.{live, most_bytes, fields_of, first_word, takes_program, forms_of, form_of, has_good_number}
+use Rattle.pv_model.specs.LineForms.{live, most_bytes, fields_of, first_word, is_wished, forms_of, form_of, has_good_number}
 use Rattle.pv_model.specs.Syntax.{Program}
 use Rattle.pv_model.specs.Text.{TextLine, is_text_byte}
 use Rattle.pv_law_programs.proofs.ItemLemmas.{some_items}
+use Rattle.pv_base.proofs.Basics.{Some_inj}
+use Rattle.pv_law_schedules.proofs.LineFormLemmas.{none-some-sites}
 use Rattle.pv_law_schedules.proofs.OneCauseLemmas.{says_more, plain_of, plain-cause}
-use Rattle.pv_law_schedules.proofs.SomeCauseLemmas.{Decidable, decide-kind, decide-bool, decide-and, decide-or, decide-not, decide-nothing, decide-empty, decide-bytes, decide-less, decide-contains, decide-mode, decide-name, AtProgram, some-program, decide-fault, decide-program, decide-no_items, NamesMany, decide-many}
+use Rattle.pv_law_schedules.proofs.SomeCauseLemmas.{Decidable, decide-kind, decide-bool, decide-and, decide-or, decide-not, decide-nothing, decide-empty, decide-bytes, decide-less, decide-contains, decide-mode, decide-name, decide-item, decide-number, AtProgram, some-program, decide-fault, decide-program, decide-no_items, NamesMany, decide-many}
 
 -- Whether a line has a cause that says nothing more.
 
@@ -32,7 +34,20 @@ decide-as to from (inl p) = inl (to p)
 decide-as to from (inr isnt) = inr (λ q. isnt (from q))
 
 decide-asked : (before : Before) (line : TextLine) → Decidable (IsAsked before line)
-decide-asked before line = decide-and (decide-kind before.script live) (decide-bool (takes_program (first_word line)) true)
+decide-asked before line = decide-and (decide-kind before.script live) (decide-bool (is_wished (first_word line)) true)
+
+-- The item of this name is at another site than the last client's.
+abbrev IsPlacedElsewhere : Before → Option ℕ → Type 0
+IsPlacedElsewhere before found = (place : ℕ) × (found ≡ Some place) × (home_of before.items place ≡ last_site before.clients → ⊥)
+
+abbrev IsElsewhere : Before → List ℕ → Type 0
+IsElsewhere before w = IsPlacedElsewhere before (place_of w before.items)
+
+decide-elsewhere : (before : Before) (found : Option ℕ) → Decidable (IsPlacedElsewhere before found)
+decide-elsewhere before None = inr (λ h. let never : ⊥ = absurd (none-some-sites None h.0 h.1 refl) in never)
+decide-elsewhere before (Some place) =
+    decide-as (λ isnt. (place, refl, isnt)) (λ h same. h.2 (ap (home_of before.items) (sym (Some_inj h.1)) ∙ same))
+    (decide-not (decide-number (home_of before.items place) (last_site before.clients)))
 
 decide-cause : (before : Before) (line : TextLine) (c : LineCause) → says_more (line_cause_rank c) ≡ false → Decidable (HasLineCause before line c)
 decide-cause before line causes.too_long e = decide-less (most_bytes before.script) (length line)
@@ -49,6 +64,10 @@ decide-cause before line causes.too_many_clients e =
     decide-and (begins (codes "client") line) (decide-as (λ l. omega (arith, l)) (λ l. omega (arith, l)) (decide-less 7 (length before.clients)))
 decide-cause before line causes.too_many_requests e =
     decide-and (decide-asked before line) (decide-as (λ l. omega (arith, l)) (λ l. omega (arith, l)) (decide-less 999 (last_requests before.clients)))
+decide-cause before line causes.no_such_item e = decide-item (λ w. place_of w before.items ≡ None) (λ w. decide-nothing (place_of w before.items)) before.script line
+decide-cause before line causes.other_site e =
+    decide-as (λ h. (h.0, h.2.0, h.1, h.2.1, h.2.2)) (λ h. (h.0, h.2, (h.1, h.3, h.4)))
+    (decide-item (IsElsewhere before) (λ w. decide-elsewhere before (place_of w before.items)) before.script line)
 decide-cause before line causes.bad_number e = decide-bool (list_all (has_good_number (or_default 0 before.sites)) (fields_of before.script line)) false
 decide-cause before line causes.bad_mode e = decide-mode (λ w. Contains mode_words w → ⊥) (λ w. decide-not (decide-contains mode_words w)) before.script line
 decide-cause before line causes.bad_name e = decide-name (λ w. is_name w ≡ false) (λ w. decide-bool (is_name w) false) before.script line
@@ -77,23 +96,23 @@ plain-at before line c plain =
     none (subst (HasLineCause before line) same h.1)))
     (decide-cause before line c plain)
 
-no-fault-at : (before : Before) (line : TextLine) → (AtProgram before line → ⊥) → (c : LineCause) → HasLineCause before line c → line_cause_rank c ≡ 15 → ⊥
+no-fault-at : (before : Before) (line : TextLine) → (AtProgram before line → ⊥) → (c : LineCause) → HasLineCause before line c → line_cause_rank c ≡ 17 → ⊥
 no-fault-at before line none (causes.at_program kind column) has e = none (kind, column, has)
 no-fault-at before line none c has e = omega (arith, e)
 
-fault-at : (before : Before) (line : TextLine) → Decidable (HasAt before line 15)
+fault-at : (before : Before) (line : TextLine) → Decidable (HasAt before line 17)
 fault-at before line =
     ⊎_elim (λ h. inl (causes.at_program h.0 h.1, h.2, refl)) (λ none. inr (λ h. no-fault-at before line none h.0 h.1 h.2)) (decide-fault before line (some-program before line))
 
 abbrev AtMany : Before → TextLine → Type 0
 AtMany before line = (p : Program) × causes.HasProgram before line p × NamesMany p
 
-no-many-at : (before : Before) (line : TextLine) → (AtMany before line → ⊥) → (c : LineCause) → HasLineCause before line c → line_cause_rank c ≡ 17 → ⊥
+no-many-at : (before : Before) (line : TextLine) → (AtMany before line → ⊥) → (c : LineCause) → HasLineCause before line c → line_cause_rank c ≡ 19 → ⊥
 no-many-at before line none (causes.too_many_names n) has e =
     none (has.0, has.1, (has.2, has.3, subst (λ (m : ℕ). MAX_PROGRAM_ITEMS < m) has.4 has.5))
 no-many-at before line none c has e = omega (arith, e)
 
-many-at : (before : Before) (line : TextLine) → Decidable (HasAt before line 17)
+many-at : (before : Before) (line : TextLine) → Decidable (HasAt before line 19)
 many-at before line =
     ⊎_elim (λ h. inl (causes.too_many_names (length h.2.0), (h.0, h.1, h.2.0, h.2.1, refl, h.2.2), refl)) (λ none. inr (λ h. no-many-at before line none h.0 h.1 h.2))
     (decide-program before line NamesMany decide-many (some-program before line))
@@ -115,7 +134,7 @@ first-at before line r (inr none) next from =
     above r n low isnt = omega (arith, low, isnt)
 
 -- a cause that a line has; no line of a script is a line of a trace
-rank-below : (before : Before) (line : TextLine) (c : LineCause) → HasLineCause before line c → line_cause_rank c ≤ 19
+rank-below : (before : Before) (line : TextLine) (c : LineCause) → HasLineCause before line c → line_cause_rank c ≤ 21
 rank-below before line causes.too_long has = omega arith
 rank-below before line causes.not_text has = omega arith
 rank-below before line causes.sites_expected has = omega arith
@@ -126,6 +145,8 @@ rank-below before line causes.wrong_count has = omega arith
 rank-below before line causes.client_expected has = omega arith
 rank-below before line causes.too_many_clients has = omega arith
 rank-below before line causes.too_many_requests has = omega arith
+rank-below before line causes.no_such_item has = omega arith
+rank-below before line causes.other_site has = omega arith
 rank-below before line causes.bad_number has = omega arith
 rank-below before line causes.bad_mode has = omega arith
 rank-below before line causes.bad_name has = omega arith
@@ -150,15 +171,17 @@ some-first before line =
     first-at before line 7 (plain-at before line causes.client_expected refl) (
     first-at before line 8 (plain-at before line causes.too_many_clients refl) (
     first-at before line 9 (plain-at before line causes.too_many_requests refl) (
-    first-at before line 10 (plain-at before line causes.bad_number refl) (
-    first-at before line 11 (plain-at before line causes.bad_mode refl) (
-    first-at before line 12 (plain-at before line causes.bad_name refl) (
-    first-at before line 13 (plain-at before line causes.name_taken refl) (
-    first-at before line 14 (plain-at before line causes.too_many_items refl) (
-    first-at before line 15 (fault-at before line) (
-    first-at before line 16 (plain-at before line causes.names_no_item refl) (
-    first-at before line 17 (many-at before line) (
-    first-at before line 18 (plain-at before line causes.query_assigns refl) (
-    first-at before line 19 (plain-at before line causes.no_return refl)
-    (λ from. inr (λ c has. omega (arith, from c has, rank-below before line c has))))))))))))))))))))))
+    first-at before line 10 (plain-at before line causes.no_such_item refl) (
+    first-at before line 11 (plain-at before line causes.other_site refl) (
+    first-at before line 12 (plain-at before line causes.bad_number refl) (
+    first-at before line 13 (plain-at before line causes.bad_mode refl) (
+    first-at before line 14 (plain-at before line causes.bad_name refl) (
+    first-at before line 15 (plain-at before line causes.name_taken refl) (
+    first-at before line 16 (plain-at before line causes.too_many_items refl) (
+    first-at before line 17 (fault-at before line) (
+    first-at before line 18 (plain-at before line causes.names_no_item refl) (
+    first-at before line 19 (many-at before line) (
+    first-at before line 20 (plain-at before line causes.query_assigns refl) (
+    first-at before line 21 (plain-at before line causes.no_return refl)
+    (λ from. inr (λ c has. omega (arith, from c has, rank-below before line c has))))))))))))))))))))))))
     (λ c has. omega arith)

@@ -10,3 +10,4 @@ pub mod NoCauseLemmas
 pub mod MeaningLemmas
 pub mod SomeLineLemmas
 pub mod SomeScheduleLemmas
+pub mod WishLemmas

@@ -9,13 +9,14 @@ use Rattle.pv_base.specs.declared.limits.TheConstants.{MAX_ITEMS, MAX_PROGRAM_IT
 use Rattle.pv_base.specs.Catalog.{place_of}
 use Rattle.pv_base.specs.Name.{is_digit, is_name}
 use Rattle.pv_model.specs.LineCauses as causes
-use Rattle.pv_model.specs.LineCauses.{Before, or_default, declared_by, LineCause, HasFirstWord, HasLineCause, HasProgram, mode_words}
+use Rattle.pv_model.specs.LineCauses.{Before, or_default, declared_by, last_site, home_of, LineCause, HasFirstWord, HasLineCause, HasProgram, mode_words}
 use Rattle.pv_model.specs.Check.{names_item, AreItems, has_assignment, has_return}
-use Rattle.pv_model.specs.LineForms.{Script, scheduled, live, most_bytes, Field, number, site, value, mode, name, program, leading_word, first_word, forms_of, takes_program, arguments, form_of, fields_of, beside, are_digits, has_good_number}
+use Rattle.pv_model.specs.LineForms.{Script, scheduled, live, most_bytes, Field, number, site, value, mode, name, item_name, program, leading_word, first_word, forms_of, takes_program, arguments, form_of, fields_of, beside, are_digits, has_good_number}
 use Rattle.pv_model.specs.ProgramText.{IsProgramText, at_fault}
 use Rattle.pv_model.specs.Schedule.{IsIn, IsDeclaredSite}
 use Rattle.pv_model.specs.Syntax.{Program}
 use Rattle.pv_model.specs.Text.{TextLine, words, IsText, number_of_digits}
+use Rattle.pv_base.proofs.Basics.{Some_inj}
 use Rattle.pv_base.proofs.ContainsLemmas.{Contains-nil, Contains-cases}
 use Rattle.pv_law_programs.proofs.ItemLemmas.{one_items}
 use Rattle.pv_law_programs.proofs.NoRefusalLemmas.{no_refusal}
@@ -46,6 +47,8 @@ Suits before word (site, w) = has_good_number (or_default 0 before.sites) (site,
 Suits before word (value, w) = has_good_number (or_default 0 before.sites) (value, w) ≡ true
 Suits before word (mode, w) = Contains mode_words w
 Suits before word (name, w) = (is_name w ≡ true) × (place_of w before.items ≡ None)
+Suits before word (item_name, w) =
+    (place : ℕ) × (place_of w before.items ≡ Some place) × (home_of before.items place ≡ last_site before.clients)
 Suits before word (program, text) = (p : Program) × IsProgramText (declared_by before) text p × Runs p word
 
 -- the line has no cause
@@ -139,16 +142,16 @@ pub look-kind : {form : Option (List Field)} (before : Before) (kind : Script) (
     → look before.script word n ≡ form
 look-kind before kind word n is found = ap (λ (s : Script). look s word n) is ∙ found
 
--- What a request may lack in a live script, the line doesn't.
+-- What a wish of a client may lack in a live script, the line doesn't.
 pub record IsFree (before : Before) (line : TextLine) : Type 0 where
   pub asked : HasLineCause before line causes.client_expected → ⊥
   pub next : HasLineCause before line causes.too_many_requests → ⊥
 
--- A line of a schedule is no request of a live script.
+-- A line of a schedule is no wish of a client.
 pub schedule-free : (before : Before) (line : TextLine) → (before.script ≡ live → ⊥) → IsFree before line
 schedule-free before line isnt = record { asked = λ has. isnt has.0.0; next = λ has. isnt has.0.0 }
 
--- a line that declares nothing but, maybe, a request
+-- a line that declares nothing but, maybe, what a client wants
 pub fits-formed : (before : Before) (line : TextLine) (n : ℕ) (word : List ℕ) (form : List Field) (given : List (List ℕ))
     → IsText (most_bytes before.script) line → before.sites ≡ Some n → is_declaring word ≡ false → first_word line ≡ word → arguments before.script line ≡ given
     → look before.script word (length given) ≡ Some form → Each (Suits before word) (beside form given) → IsFree before line → Fits before line
@@ -184,6 +187,7 @@ suits-good before word ((site, w) ∷ fields) each = both_true each.0 (suits-goo
 suits-good before word ((value, w) ∷ fields) each = both_true each.0 (suits-good before word fields each.1)
 suits-good before word ((mode, w) ∷ fields) each = both_true refl (suits-good before word fields each.1)
 suits-good before word ((name, w) ∷ fields) each = both_true refl (suits-good before word fields each.1)
+suits-good before word ((item_name, w) ∷ fields) each = both_true refl (suits-good before word fields each.1)
 suits-good before word ((program, w) ∷ fields) each = both_true refl (suits-good before word fields each.1)
 
 -- the program of the line is the one that suits
@@ -207,6 +211,13 @@ fits-no-cause before line causes.wrong_count fits has = let some : form_of befor
 fits-no-cause before line causes.client_expected fits has = fits.asked has
 fits-no-cause before line causes.too_many_clients fits has = fits.fewer has
 fits-no-cause before line causes.too_many_requests fits has = fits.next has
+fits-no-cause before line causes.no_such_item fits has =
+    let suits : Suits before (first_word line) (item_name, has.0) = Each-contains (Suits before (first_word line)) (fields_of before.script line) (item_name, has.0) fits.each has.1 in
+    none-some-sites (place_of has.0 before.items) suits.0 suits.1 has.2
+fits-no-cause before line causes.other_site fits has =
+    let suits : Suits before (first_word line) (item_name, has.0) = Each-contains (Suits before (first_word line)) (fields_of before.script line) (item_name, has.0) fits.each has.2 in
+    let same : suits.0 ≡ has.1 = Some_inj (sym suits.1 ∙ has.3) in
+    has.4 (ap (home_of before.items) (sym same) ∙ suits.2)
 fits-no-cause before line causes.bad_number fits has = false≢true (sym has ∙ suits-good before (first_word line) (fields_of before.script line) fits.each)
 fits-no-cause before line causes.bad_mode fits has = has.2 (Each-contains (Suits before (first_word line)) (fields_of before.script line) (mode, has.0) fits.each has.1)
 fits-no-cause before line causes.bad_name fits has =

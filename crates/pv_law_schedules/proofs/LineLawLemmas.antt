@@ -12,9 +12,9 @@ use Rattle.pv_model.specs.LineCauses.{Before, or_default, LineCause, HasLineCaus
 use Rattle.pv_model.specs.Events as events
 use Rattle.pv_model.specs.Events.{Event}
 use Rattle.pv_model.specs.LineForms as fields
-use Rattle.pv_model.specs.LineForms.{Script, scheduled, live, most_bytes, Field, line_forms, leading_word, first_word, takes_program, arguments, form_of, has_good_number}
+use Rattle.pv_model.specs.LineForms.{Script, scheduled, live, most_bytes, Field, line_forms, leading_word, first_word, takes_program, is_wished, arguments, form_of, has_good_number}
 use Rattle.pv_model.specs.Meaning.{fits_i64}
-use Rattle.pv_model.specs.Schedule.{IsIn, IsDeclaredSite, IsMode, IsOne, IsAlone, IsArm, IsRequest, request_word, MayRun, IsEvent, DeclaresSites, DeclaresJournal, DeclaresItem, DeclaresPlan, DeclaresClient, DeclaresRequest, Declares}
+use Rattle.pv_model.specs.Schedule.{IsIn, IsDeclaredSite, IsMode, IsOne, IsAlone, IsArm, IsRequest, request_word, MayRun, IsEvent, DeclaresSites, DeclaresJournal, DeclaresItem, DeclaresPlan, DeclaresClient, DeclaresRequest, DeclaresPeek, Declares}
 use Rattle.pv_model.specs.Syntax.{Program}
 use Rattle.pv_model.specs.Text.{TextLine, IsText, IsSignedDecimal, digits_of}
 use Rattle.pv_base.proofs.ContainsLemmas.{Contains-first, Contains-behind}
@@ -118,15 +118,15 @@ unfolding line_forms
 look-item scheduled = refl
 look-item live = refl
 
--- A line whose first word takes no program is no request.
-no-request : (before : Before) (line : TextLine) (word : List ℕ) → takes_program word ≡ false → first_word line ≡ word → IsFree before line
+-- A line with such a first word is no wish of a client.
+no-request : (before : Before) (line : TextLine) (word : List ℕ) → is_wished word ≡ false → first_word line ≡ word → IsFree before line
 no-request before line word plain first = record {
-  asked = λ has. false≢true (sym plain ∙ ap takes_program (sym first) ∙ has.0.1);
-  next = λ has. false≢true (sym plain ∙ ap takes_program (sym first) ∙ has.0.1);
+  asked = λ has. false≢true (sym plain ∙ ap is_wished (sym first) ∙ has.0.1);
+  next = λ has. false≢true (sym plain ∙ ap is_wished (sym first) ∙ has.0.1);
 }
 
 fits-sites : (before after : Before) (line : TextLine) → DeclaresSites before line after → Fits before line
-unfolding takes_program
+unfolding takes_program is_wished
 fits-sites before after line is =
     let word = codes "sites" in
     let first : first_word line ≡ word = ap leading_word is.is.1 in
@@ -151,7 +151,7 @@ fits-sites before after line is =
     }
 
 fits-journal : (before after : Before) (line : TextLine) → DeclaresJournal before line after → Fits before line
-unfolding takes_program
+unfolding takes_program is_wished
 fits-journal before after line is =
     let word = codes "journal" in
     let first : first_word line ≡ word = ap leading_word is.is.1 in
@@ -179,7 +179,7 @@ good-value sites w z is fits =
     both_true (are_digits-of (digits_of w) is.some is.digits) (subst (λ (y : ℤ). fits_i64 y ≡ true) is.value fits)
 
 fits-item : (before after : Before) (line : TextLine) → DeclaresItem before line after → Fits before line
-unfolding takes_program
+unfolding takes_program is_wished
 fits-item before after line is =
     let word = codes "item" in
     let words_given = is.item.name ∷ is.at ∷ is.number ∷ [] in
@@ -207,7 +207,7 @@ fits-item before after line is =
 -- Lines of live scripts alone.
 
 fits-plan : (before after : Before) (line : TextLine) → DeclaresPlan before line after → Fits before line
-unfolding line_forms takes_program
+unfolding line_forms takes_program is_wished
 fits-plan before after line is =
     let word = codes "plan" in
     let words_given = is.dropped ∷ is.doubled ∷ [] in
@@ -236,7 +236,7 @@ fits-plan before after line is =
     }
 
 fits-client : (before after : Before) (line : TextLine) → DeclaresClient before line after → Fits before line
-unfolding line_forms takes_program
+unfolding line_forms takes_program is_wished
 fits-client before after line is =
     let word = codes "client" in
     let first : first_word line ≡ word = ap leading_word is.is.1 in
@@ -278,10 +278,17 @@ fits-asked before after line is =
     ((is.request.program, is.is, runs-query is.request.program is.request.query is.may), tt)
     (record { asked = λ has. is.some has.1; next = λ has. omega (arith, is.room, has.1) })
 
+fits-peek : (before after : Before) (line : TextLine) → DeclaresPeek before line after → Fits before line
+unfolding line_forms takes_program
+fits-peek before after line is =
+    fits-plain before line is.sites (codes "peek") (fields.item_name ∷ []) (is.name ∷ []) is.text is.said refl refl
+    (look-kind before live (codes "peek") 1 is.kind refl) is.is ((is.item, is.at, is.here), tt)
+    (record { asked = λ has. is.some has.1; next = λ has. omega (arith, is.room, has.1) })
+
 pub declared-fits : (before after : Before) (line : TextLine) → Declares before line after → Fits before line
 declared-fits before after line =
     ⊎_elim (fits-sites before after line) (⊎_elim (fits-journal before after line) (⊎_elim (fits-item before after line)
-    (⊎_elim (fits-plan before after line) (⊎_elim (fits-client before after line) (fits-asked before after line)))))
+    (⊎_elim (fits-plan before after line) (⊎_elim (fits-client before after line) (⊎_elim (fits-asked before after line) (fits-peek before after line))))))
 
 pub no-cause-declared : {before after : Before} {line : TextLine} (cause : LineCause) → Declares before line after → HasLineCause before line cause → ⊥
 no-cause-declared {before} {after} {line} cause is has = fits-no-cause before line cause (declared-fits before after line is) has

@@ -46,15 +46,20 @@ Stands form given text = Contains (beside form given) (program, text)
 abbrev IsEntry : Field × List ℕ → Field × List ℕ → Type 0
 IsEntry entry other = entry ≡ other
 
+-- Nothing stands in a field of a kind that the form hasn't.
+pub none-such : (p : Field → Bool) (kind : Field) → p kind ≡ true → (form : List Field) (given : List (List ℕ)) (text : List ℕ) → list_all (λ field. not (p field)) form ≡ true
+    → Contains (beside form given) (kind, text) → ⊥
+none-such p kind is [] given text none c = Contains-nil (kind, text) c
+none-such p kind is (field ∷ form) [] text none c = Contains-nil (kind, text) c
+none-such p kind is (field ∷ form) (w ∷ given) text none c =
+    ⊎_elim
+    (λ same. false≢true (ap not (sym is) ∙ sym (ap (λ (entry : Field × List ℕ). not (p entry.0)) same) ∙ and-left (not (p field)) (list_all (λ field. not (p field)) form) none))
+    (none-such p kind is form given text (and-right (not (p field)) (list_all (λ field. not (p field)) form) none))
+    (Contains-cases (field, w) (beside form given) (kind, text) c)
+
 pub none-stands : (form : List Field) (given : List (List ℕ)) (text : List ℕ) → list_all (λ field. not (is_program field)) form ≡ true → Stands form given text → ⊥
 unfolding is_program
-none-stands [] given text none c = Contains-nil (program, text) c
-none-stands (field ∷ form) [] text none c = Contains-nil (program, text) c
-none-stands (field ∷ form) (w ∷ given) text none c =
-    ⊎_elim
-    (λ same. false≢true (sym (ap (λ (entry : Field × List ℕ). not (is_program entry.0)) same) ∙ and-left (not (is_program field)) (list_all (λ field. not (is_program field)) form) none))
-    (none-stands form given text (and-right (not (is_program field)) (list_all (λ field. not (is_program field)) form) none))
-    (Contains-cases (field, w) (beside form given) (program, text) c)
+none-stands form given text none c = none-such is_program program refl form given text none c
 
 one-stands : (form : List Field) (given : List (List ℕ)) (a b : List ℕ) → lone form ≡ true → Stands form given a → Stands form given b → a ≡ b
 unfolding is_program

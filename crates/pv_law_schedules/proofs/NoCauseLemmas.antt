@@ -10,7 +10,7 @@ use Rattle.pv_base.specs.declared.limits.TheConstants.{MAX_ITEMS, MAX_LINE, MAX_
 use Rattle.pv_base.specs.Catalog.{place_of}
 use Rattle.pv_base.specs.Name.{is_blank, is_name}
 use Rattle.pv_model.specs.LineCauses as causes
-use Rattle.pv_model.specs.LineCauses.{Before, or_default, declared_by, LineCause, HasLineCause, Has, HasProgram, mode_words}
+use Rattle.pv_model.specs.LineCauses.{Before, or_default, declared_by, last_site, home_of, LineCause, HasLineCause, Has, HasProgram, mode_words}
 use Rattle.pv_model.specs.Check.{AreItems, has_assignment, has_return}
 use Rattle.pv_model.specs.LineForms as fields
 use Rattle.pv_model.specs.LineForms.{Script, scheduled, live, most_bytes, Field, line_forms, first_word, forms_of, takes_program, after_blanks, after_word, before_blanks, program_text, site_and_text, text_alone, with_text, later_words, arguments, form_of, fields_of, fields_in, beside, has_good_number}
@@ -21,9 +21,9 @@ use Rattle.pv_base.proofs.Basics.{and-left, and-right}
 use Rattle.pv_base.proofs.ContainsLemmas.{Contains-first, Contains-behind, Contains-nil}
 use Rattle.pv_law_programs.proofs.ItemLemmas.{some_items}
 use Rattle.pv_law_schedules.proofs.LineFormLemmas.{Each, Each-contains, Runs, Suits, Fits, look, form_of-look}
-use Rattle.pv_law_schedules.proofs.LineTextLemmas.{found-in, is_program, none-stands, one-text}
+use Rattle.pv_law_schedules.proofs.LineTextLemmas.{found-in, is_program, none-such, none-stands, one-text}
 use Rattle.pv_law_programs.proofs.SomeAnswer.{some_answer}
-use Rattle.pv_law_schedules.proofs.SomeCauseLemmas.{Decidable, decide-nothing, decide-bytes, decide-less, decide-contains, names_item-none}
+use Rattle.pv_law_schedules.proofs.SomeCauseLemmas.{Decidable, decide-nothing, decide-number, decide-bytes, decide-less, decide-contains, names_item-none}
 
 pub isnt-true : (b : Bool) → (b ≡ true → ⊥) → b ≡ false
 isnt-true true isnt = absurd (isnt refl)
@@ -124,6 +124,66 @@ plain-no-program : (script : Script) (line : TextLine) (text : List ℕ) → tak
 plain-no-program script line text plain has =
     no-program (form_of script line) (arguments script line) text
     (λ form e. found-in programless _ (forms_of script (first_word line)) form (programless-forms script (first_word line) plain) (sym (form_of-look script line) ∙ e)) has
+
+-- A line names an item to look at only where it begins with `peek`, in a live script.
+
+unfoldable is_item : Field → Bool
+is_item fields.item_name = true
+is_item field = false
+
+abbrev itemless : List Field → Bool
+itemless form = list_all (λ field. not (is_item field)) form
+
+no-item-in : (form : Option (List Field)) (given : List (List ℕ)) (text : List ℕ) → ((fields : List Field) → form ≡ Some fields → itemless fields ≡ true)
+    → Contains (fields_in form given) (fields.item_name, text) → ⊥
+unfolding is_item
+no-item-in None given text less has = Contains-nil (fields.item_name, text) has
+no-item-in (Some form) given text less has = none-such is_item fields.item_name refl form given text (less form refl) has
+
+no-item-by : (script : Script) (line : TextLine) (text : List ℕ) → list_all itemless (forms_of script (first_word line)) ≡ true → Has script line fields.item_name text → ⊥
+no-item-by script line text all has =
+    no-item-in (form_of script line) (arguments script line) text
+    (λ form e. found-in itemless _ (forms_of script (first_word line)) form all (sym (form_of-look script line) ∙ e)) has
+
+-- It is the form of a look, or no item is named in it.
+abbrev is_peek_or_itemless : List ℕ × List Field → Bool
+is_peek_or_itemless entry = bytes_eq entry.0 (codes "peek") || itemless entry.1
+
+each-peek-or-itemless : (script : Script) → list_all is_peek_or_itemless (line_forms script) ≡ true
+unfolding line_forms is_item
+each-peek-or-itemless scheduled = refl
+each-peek-or-itemless live = refl
+
+each-itemless : (word : List ℕ) → (word ≡ codes "peek" → ⊥) → (entries : List (List ℕ × List Field)) → list_all is_peek_or_itemless entries ≡ true
+    → Each (λ entry. bytes_eq word entry.0 ≡ true → itemless entry.1 ≡ true) entries
+each-itemless word other [] all = tt
+each-itemless word other (entry ∷ entries) all =
+    let parts = and_parts (is_peek_or_itemless entry) (list_all is_peek_or_itemless entries) all in (
+      (λ same. ⊎_elim
+          (λ peek. absurd (other ((bytes_eq-Decides word entry.0).0 same ∙ (bytes_eq-Decides entry.0 (codes "peek")).0 peek)))
+          (λ none. none)
+          (or_cases (bytes_eq entry.0 (codes "peek")) (itemless entry.1) parts.0)),
+      each-itemless word other entries parts.1,
+    )
+
+pub no-item : (script : Script) (line : TextLine) (text : List ℕ) → (first_word line ≡ codes "peek" → ⊥) → Has script line fields.item_name text → ⊥
+no-item script line text other has =
+    no-item-by script line text (forms-pass itemless (first_word line) (line_forms script) (each-itemless (first_word line) other (line_forms script) (each-peek-or-itemless script))) has
+
+each-scheduled-itemless : list_all (λ (entry : List ℕ × List Field). itemless entry.1) (line_forms scheduled) ≡ true
+unfolding line_forms is_item
+each-scheduled-itemless = refl
+
+each-of-all : (word : List ℕ) (entries : List (List ℕ × List Field)) → list_all (λ entry. itemless entry.1) entries ≡ true
+    → Each (λ entry. bytes_eq word entry.0 ≡ true → itemless entry.1 ≡ true) entries
+each-of-all word [] all = tt
+each-of-all word (entry ∷ entries) all =
+    let parts = and_parts (itemless entry.1) (list_all (λ (one : List ℕ × List Field). itemless one.1) entries) all in
+    (λ same. parts.0, each-of-all word entries parts.1)
+
+pub no-item-scheduled : (line : TextLine) (text : List ℕ) → Has scheduled line fields.item_name text → ⊥
+no-item-scheduled line text has =
+    no-item-by scheduled line text (forms-pass itemless (first_word line) (line_forms scheduled) (each-of-all (first_word line) (line_forms scheduled) each-scheduled-itemless)) has
 
 pub request-words : (word : List ℕ) → takes_program word ≡ true → (word ≡ codes "submit") ⊎ (word ≡ codes "query")
 unfolding takes_program
@@ -294,6 +354,15 @@ free-suits before line free (fields.value, w) c = free-good before line free (fi
 free-suits before line free (fields.mode, w) c = ⊎_elim (λ is. is) (λ isnt. absurd (free causes.bad_mode (w, c, isnt))) (decide-contains mode_words w)
 free-suits before line free (fields.name, w) c =
     (isnt-false (is_name w) (λ is. free causes.bad_name (w, c, is)), ⊎_elim (λ is. is) (λ isnt. absurd (free causes.name_taken (w, c, isnt))) (decide-nothing (place_of w before.items)))
+free-suits before line free (fields.item_name, w) c = go (place_of w before.items) refl
+  where
+    at : (place : ℕ) → place_of w before.items ≡ Some place → Decidable (home_of before.items place ≡ last_site before.clients) → Suits before (first_word line) (fields.item_name, w)
+    at place found (inl here) = (place, found, here)
+    at place found (inr elsewhere) = absurd (free causes.other_site (w, place, c, found, elsewhere))
+
+    go : (found : Option ℕ) → place_of w before.items ≡ found → Suits before (first_word line) (fields.item_name, w)
+    go None e = absurd (free causes.no_such_item (w, c, e))
+    go (Some place) e = at place e (decide-number (home_of before.items place) (last_site before.clients))
 free-suits before line free (fields.program, w) c =
     let some = free-program before line free w c in
     (some.0, some.1, free-runs before line free some.0 (w, c, some.1))

@@ -15,17 +15,18 @@ use Rattle.pv_law_programs.proofs.ProgramTextLemmas.{one_program_text, one_refus
 -- the causes that say nothing more, by their ranks
 
 abbrev pub says_more : ℕ → Bool
-says_more r = r == 15 || r == 17
+says_more r = r == 17 || r == 19
 
 abbrev pub plain_of : ℕ → LineCause
 plain_of r =
     if r == 0 then causes.too_long else (if r == 1 then causes.not_text else (if r == 2 then causes.sites_expected else
     (if r == 3 then causes.unknown_word else (if r == 4 then causes.twice else (if r == 5 then causes.too_late else
     (if r == 6 then causes.wrong_count else (if r == 7 then causes.client_expected else (if r == 8 then causes.too_many_clients else
-    (if r == 9 then causes.too_many_requests else (if r == 10 then causes.bad_number else (if r == 11 then causes.bad_mode else
-    (if r == 12 then causes.bad_name else (if r == 13 then causes.name_taken else (if r == 14 then causes.too_many_items else
-    (if r == 16 then causes.names_no_item else (if r == 18 then causes.query_assigns else
-    (if r == 19 then causes.no_return else causes.not_a_trace)))))))))))))))))
+    (if r == 9 then causes.too_many_requests else (if r == 10 then causes.no_such_item else (if r == 11 then causes.other_site else
+    (if r == 12 then causes.bad_number else (if r == 13 then causes.bad_mode else (if r == 14 then causes.bad_name else
+    (if r == 15 then causes.name_taken else (if r == 16 then causes.too_many_items else
+    (if r == 18 then causes.names_no_item else (if r == 20 then causes.query_assigns else
+    (if r == 21 then causes.no_return else causes.not_a_trace)))))))))))))))))))
 
 pub plain-cause : (c : LineCause) → says_more (line_cause_rank c) ≡ false → c ≡ plain_of (line_cause_rank c)
 plain-cause causes.too_long e = refl
@@ -38,6 +39,8 @@ plain-cause causes.wrong_count e = refl
 plain-cause causes.client_expected e = refl
 plain-cause causes.too_many_clients e = refl
 plain-cause causes.too_many_requests e = refl
+plain-cause causes.no_such_item e = refl
+plain-cause causes.other_site e = refl
 plain-cause causes.bad_number e = refl
 plain-cause causes.bad_mode e = refl
 plain-cause causes.bad_name e = refl
@@ -69,11 +72,11 @@ same-count before line m n is also =
     let items : is.2 ≡ also.2 = one_items also.0 is.2 also.2 (subst (λ (p : Program). AreItems p is.2) p is.3) also.3 in
     is.4 ∙ ap (λ (l : List ℕ). length l) items ∙ sym also.4
 
-with-fault : (before : Before) (line : TextLine) (k : Kind) (m : ℕ) (d : LineCause) → HasLineCause before line (causes.at_program k m) → HasLineCause before line d → line_cause_rank d ≡ 15 → causes.at_program k m ≡ d
+with-fault : (before : Before) (line : TextLine) (k : Kind) (m : ℕ) (d : LineCause) → HasLineCause before line (causes.at_program k m) → HasLineCause before line d → line_cause_rank d ≡ 17 → causes.at_program k m ≡ d
 with-fault before line k m (causes.at_program l n) is also e = same-refused before line k l m n is also
 with-fault before line k m d is also e = absurd (omega (arith, e))
 
-with-count : (before : Before) (line : TextLine) (m : ℕ) (d : LineCause) → HasLineCause before line (causes.too_many_names m) → HasLineCause before line d → line_cause_rank d ≡ 17 → causes.too_many_names m ≡ d
+with-count : (before : Before) (line : TextLine) (m : ℕ) (d : LineCause) → HasLineCause before line (causes.too_many_names m) → HasLineCause before line d → line_cause_rank d ≡ 19 → causes.too_many_names m ≡ d
 with-count before line m (causes.too_many_names n) is also e = ap causes.too_many_names (same-count before line m n is also)
 with-count before line m d is also e = absurd (omega (arith, e))
 

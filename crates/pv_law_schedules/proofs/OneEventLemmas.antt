@@ -3,18 +3,19 @@ use Rattle.std.proofs.Common.{◌≡◌, ℕ, Bool, true, false, Option, Some, N
 use Rattle.std.specs.Prelude.{codes, if◌then◌else◌, ◌++◌}
 use Rattle.std.specs.Str.{bytes_eq}
 use Rattle.std.proofs.lemmas.Bool.{false≢true}
-use Rattle.pv_base.specs.Catalog.{Item}
+use Rattle.pv_base.specs.Catalog.{Item, place_of}
 use Rattle.pv_base.specs.declared.mode.Mode.{Mode}
 use Rattle.pv_base.specs.declared.mode.Mode.TheVariants.{Lost, Kept, Torn}
-use Rattle.pv_model.specs.LineCauses.{Before, declared_by}
+use Rattle.pv_model.specs.LineCauses.{Before, declared_by, last_requests}
 use Rattle.pv_model.specs.Events as events
 use Rattle.pv_model.specs.Events.{Event}
 use Rattle.pv_model.specs.LineForms.{leading_word, later_words, first_word, takes_program}
-use Rattle.pv_model.specs.LiveScript.{Request, FaultPlan}
+use Rattle.pv_model.specs.LiveScript.{Request, to_ask, to_peek, FaultPlan}
 use Rattle.pv_model.specs.ProgramText.{IsProgramText}
-use Rattle.pv_model.specs.Schedule.{IsMode, IsOne, IsArm, IsRequest, request_word, Says, IsEvent, DeclaresSites, DeclaresJournal, DeclaresItem, DeclaresPlan, DeclaresClient, DeclaresRequest, DeclaresLive, Declares, new_client, with_request}
+use Rattle.pv_model.specs.Schedule.{IsMode, IsOne, IsArm, IsRequest, request_word, Says, IsEvent, DeclaresSites, DeclaresJournal, DeclaresItem, DeclaresPlan, DeclaresClient, DeclaresRequest, DeclaresPeek, DeclaresLive, Declares, new_client, with_wish}
 use Rattle.pv_model.specs.Syntax.{Program}
 use Rattle.pv_model.specs.Text.{TextLine, words, number_of_digits, number_of_signed}
+use Rattle.pv_base.proofs.Basics.{Some_inj}
 use Rattle.pv_law_schedules.proofs.LineFormLemmas.{is_declaring, none-some-sites, kinds-differ, declares-journal, declares-item, declares-plan, declares-client}
 use Rattle.pv_law_schedules.proofs.LineLawLemmas.{word-differs, request-declares}
 use Rattle.pv_law_programs.proofs.ProgramTextLemmas.{one_program_text}
@@ -208,41 +209,68 @@ one-asked before line a b is also =
     (subst (λ (t : List ℕ). IsProgramText (declared_by before) t is.request.program) text is.is) also.is in
     let number : is.request.number ≡ also.request.number = is.number ∙ sym also.number in
     let same : is.request ≡ also.request = λ i. record { number = number i; query = query i; text = text i; program = program i } in
-    is.same ∙ ap (λ (r : Request). record before { clients = with_request before.clients r }) same ∙ sym also.same
+    is.same ∙ ap (λ (r : Request). record before { clients = with_wish before.clients (to_ask r) }) same ∙ sym also.same
+
+pub one-peek : (before : Before) (line : TextLine) (a b : Before) → DeclaresPeek before line a → DeclaresPeek before line b → a ≡ b
+one-peek before line a b is also =
+    let name : is.name ≡ also.name = ap second_of (sym is.is ∙ also.is) in
+    let item : is.item ≡ also.item = Some_inj (sym is.at ∙ ap (λ (w : List ℕ). place_of w before.items) name ∙ also.at) in
+    is.same ∙ ap (λ (n : ℕ). record before { clients = with_wish before.clients (to_peek (last_requests before.clients) n) }) item ∙ sym also.same
 
 -- a request's first word declares nothing else
 asked-word : (before : Before) (line : TextLine) (a : Before) → DeclaresRequest before line a → is_declaring (first_word line) ≡ false
 asked-word before line a is = ap (λ (ws : List (List ℕ)). is_declaring (leading_word ws)) is.first ∙ request-declares is.request.query
 
+peek-word : (before : Before) (line : TextLine) (a : Before) → DeclaresPeek before line a → is_declaring (first_word line) ≡ false
+peek-word before line a is = ap (λ (ws : List (List ℕ)). is_declaring (leading_word ws)) is.is
+
+-- a request's first word is not that of a look
+asked-peek : (before : Before) (line : TextLine) (a b : Before) → DeclaresRequest before line a → DeclaresPeek before line b → ⊥
+asked-peek before line a b is also = request-peek is.request.query (sym (ap leading_word is.first) ∙ ap leading_word also.is)
+  where
+    request-peek : (query : Bool) → request_word query ≡ codes "peek" → ⊥
+    request-peek true e = false≢true (ap (bytes_eq (codes "peek")) e)
+    request-peek false e = false≢true (ap (bytes_eq (codes "peek")) e)
+
 one-live : {before : Before} {line : TextLine} {a b : Before} → DeclaresLive before line a → DeclaresLive before line b → a ≡ b
 one-live {before} {line} {a} {b} (inl x) (inl y) = one-plan before line a b x y
 one-live {before} {line} {a} {b} (inl x) (inr (inl y)) =
     absurd (word-differs line (codes "plan") (codes "client") refl refl (ap leading_word x.is) (ap leading_word y.is.1))
-one-live {before} {line} {a} {b} (inl x) (inr (inr y)) = absurd (declares-plan (first_word line) (asked-word before line b y) (ap leading_word x.is))
+one-live {before} {line} {a} {b} (inl x) (inr (inr (inl y))) = absurd (declares-plan (first_word line) (asked-word before line b y) (ap leading_word x.is))
+one-live {before} {line} {a} {b} (inl x) (inr (inr (inr y))) = absurd (declares-plan (first_word line) (peek-word before line b y) (ap leading_word x.is))
 one-live {before} {line} {a} {b} (inr (inl x)) (inl y) =
     absurd (word-differs line (codes "plan") (codes "client") refl refl (ap leading_word y.is) (ap leading_word x.is.1))
 one-live {before} {line} {a} {b} (inr (inl x)) (inr (inl y)) = one-client before line a b x y
-one-live {before} {line} {a} {b} (inr (inl x)) (inr (inr y)) = absurd (declares-client (first_word line) (asked-word before line b y) (ap leading_word x.is.1))
-one-live {before} {line} {a} {b} (inr (inr x)) (inl y) = absurd (declares-plan (first_word line) (asked-word before line a x) (ap leading_word y.is))
-one-live {before} {line} {a} {b} (inr (inr x)) (inr (inl y)) = absurd (declares-client (first_word line) (asked-word before line a x) (ap leading_word y.is.1))
-one-live {before} {line} {a} {b} (inr (inr x)) (inr (inr y)) = one-asked before line a b x y
+one-live {before} {line} {a} {b} (inr (inl x)) (inr (inr (inl y))) = absurd (declares-client (first_word line) (asked-word before line b y) (ap leading_word x.is.1))
+one-live {before} {line} {a} {b} (inr (inl x)) (inr (inr (inr y))) = absurd (declares-client (first_word line) (peek-word before line b y) (ap leading_word x.is.1))
+one-live {before} {line} {a} {b} (inr (inr (inl x))) (inl y) = absurd (declares-plan (first_word line) (asked-word before line a x) (ap leading_word y.is))
+one-live {before} {line} {a} {b} (inr (inr (inl x))) (inr (inl y)) = absurd (declares-client (first_word line) (asked-word before line a x) (ap leading_word y.is.1))
+one-live {before} {line} {a} {b} (inr (inr (inl x))) (inr (inr (inl y))) = one-asked before line a b x y
+one-live {before} {line} {a} {b} (inr (inr (inl x))) (inr (inr (inr y))) = absurd (asked-peek before line a b x y)
+one-live {before} {line} {a} {b} (inr (inr (inr x))) (inl y) = absurd (declares-plan (first_word line) (peek-word before line a x) (ap leading_word y.is))
+one-live {before} {line} {a} {b} (inr (inr (inr x))) (inr (inl y)) = absurd (declares-client (first_word line) (peek-word before line a x) (ap leading_word y.is.1))
+one-live {before} {line} {a} {b} (inr (inr (inr x))) (inr (inr (inl y))) = absurd (asked-peek before line b a y x)
+one-live {before} {line} {a} {b} (inr (inr (inr x))) (inr (inr (inr y))) = one-peek before line a b x y
 
 -- What a live script alone declares, nothing else does.
 
 sites-live : {before : Before} {line : TextLine} {a b : Before} → DeclaresSites before line a → DeclaresLive before line b → ⊥
 sites-live {before} x (inl y) = none-some-sites before.sites y.sites y.said x.first
 sites-live {before} x (inr (inl y)) = none-some-sites before.sites y.sites y.said x.first
-sites-live {before} x (inr (inr y)) = none-some-sites before.sites y.sites y.said x.first
+sites-live {before} x (inr (inr (inl y))) = none-some-sites before.sites y.sites y.said x.first
+sites-live {before} x (inr (inr (inr y))) = none-some-sites before.sites y.sites y.said x.first
 
 journal-live : {before : Before} {line : TextLine} {a b : Before} → DeclaresJournal before line a → DeclaresLive before line b → ⊥
 journal-live {before} {line} x (inl y) = word-differs line (codes "journal") (codes "plan") refl refl (ap leading_word x.is.1) (ap leading_word y.is)
 journal-live {before} {line} x (inr (inl y)) = word-differs line (codes "journal") (codes "client") refl refl (ap leading_word x.is.1) (ap leading_word y.is.1)
-journal-live {before} {line} {a} {b} x (inr (inr y)) = declares-journal (first_word line) (asked-word before line b y) (ap leading_word x.is.1)
+journal-live {before} {line} {a} {b} x (inr (inr (inl y))) = declares-journal (first_word line) (asked-word before line b y) (ap leading_word x.is.1)
+journal-live {before} {line} {a} {b} x (inr (inr (inr y))) = declares-journal (first_word line) (peek-word before line b y) (ap leading_word x.is.1)
 
 item-live : {before : Before} {line : TextLine} {a b : Before} → DeclaresItem before line a → DeclaresLive before line b → ⊥
 item-live {before} {line} x (inl y) = word-differs line (codes "item") (codes "plan") refl refl (ap leading_word x.is) (ap leading_word y.is)
 item-live {before} {line} x (inr (inl y)) = word-differs line (codes "item") (codes "client") refl refl (ap leading_word x.is) (ap leading_word y.is.1)
-item-live {before} {line} {a} {b} x (inr (inr y)) = declares-item (first_word line) (asked-word before line b y) (ap leading_word x.is)
+item-live {before} {line} {a} {b} x (inr (inr (inl y))) = declares-item (first_word line) (asked-word before line b y) (ap leading_word x.is)
+item-live {before} {line} {a} {b} x (inr (inr (inr y))) = declares-item (first_word line) (peek-word before line b y) (ap leading_word x.is)
 
 pub one-declared : {before : Before} {line : TextLine} {a b : Before} → Declares before line a → Declares before line b → a ≡ b
 one-declared {before} {line} {a} {b} (inl x) (inl y) = one-sites before line a b x y
@@ -292,4 +320,5 @@ not-both {before} {line} {e} {a} is (inr (inl x)) = declares-journal (first_word
 not-both {before} {line} {e} {a} is (inr (inr (inl x))) = declares-item (first_word line) (says-no-declaring before line e is.says) (ap leading_word x.is)
 not-both {before} {line} {e} {a} is (inr (inr (inr (inl x)))) = kinds-differ (sym is.kind ∙ x.kind)
 not-both {before} {line} {e} {a} is (inr (inr (inr (inr (inl x))))) = kinds-differ (sym is.kind ∙ x.kind)
-not-both {before} {line} {e} {a} is (inr (inr (inr (inr (inr x))))) = kinds-differ (sym is.kind ∙ x.kind)
+not-both {before} {line} {e} {a} is (inr (inr (inr (inr (inr (inl x)))))) = kinds-differ (sym is.kind ∙ x.kind)
+not-both {before} {line} {e} {a} is (inr (inr (inr (inr (inr (inr x)))))) = kinds-differ (sym is.kind ∙ x.kind)

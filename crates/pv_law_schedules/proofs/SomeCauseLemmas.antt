@@ -1,9 +1,9 @@
 -- Each line has a first cause, or it has none.
 use Rattle.std.proofs.Common.{◌≡◌, ◌⊎◌, ⊎_elim, ℕ, ◌<◌, Bool, true, false, Option, Some, None, List, [], ◌∷◌, length, inl, inr, refl, sym, ap, subst, arith}
-use Rattle.std.specs.Prelude.{nat_le}
+use Rattle.std.specs.Prelude.{nat_le, ◌==◌}
 use Rattle.std.specs.List.{Contains}
 use Rattle.std.specs.Str.{bytes_eq}
-use Rattle.std.proofs.lemmas.Bool.{false≢true, leb-true, leb-false}
+use Rattle.std.proofs.lemmas.Bool.{false≢true, leb-true, leb-false, eqb-true, eqb-false}
 use Rattle.std.proofs.lemmas.Slice.Eq.{bytes_eq-Decides}
 use Rattle.pv_base.specs.declared.limits.TheConstants.{MAX_PROGRAM_ITEMS}
 use Rattle.pv_model.specs.LineCauses as causes
@@ -14,6 +14,7 @@ use Rattle.pv_model.specs.LineForms.{Script, scheduled, live, Field, program, fi
 use Rattle.pv_model.specs.ProgramText.{Kind, Refusal, too_large, at_fault, IsRefused}
 use Rattle.pv_model.specs.Syntax.{Program}
 use Rattle.pv_model.specs.Text.{TextLine}
+use Rattle.pv_base.proofs.Basics.{Some_inj}
 use Rattle.pv_base.proofs.ContainsLemmas.{Contains-first, Contains-behind, Contains-nil, Contains-cases}
 use Rattle.pv_law_programs.proofs.ItemLemmas.{one_items, some_items}
 use Rattle.pv_law_schedules.proofs.LineFormLemmas.{first-item}
@@ -49,6 +50,17 @@ decide-not (inr no_p) = inl no_p
 pub decide-nothing : {X : Type 0} (o : Option X) → Decidable (o ≡ None)
 decide-nothing None = inl refl
 decide-nothing (Some x) = inr (λ e. let never : ⊥ = cc in never)
+
+-- numbers that may be there
+pub decide-number : (a b : Option ℕ) → Decidable (a ≡ b)
+decide-number None None = inl refl
+decide-number None (Some n) = inr (λ e. let never : ⊥ = cc in never)
+decide-number (Some m) None = inr (λ e. let never : ⊥ = cc in never)
+decide-number (Some m) (Some n) = go (m == n) refl
+  where
+    go : (b : Bool) → (m == n) ≡ b → Decidable (Some m ≡ Some n)
+    go true same = inl (ap Some (eqb-true m n same))
+    go false differ = inr (λ e. eqb-false m n differ (Some_inj e))
 
 -- a kind is this one
 pub decide-kind : (script kind : Script) → Decidable (script ≡ kind)
@@ -100,6 +112,7 @@ in-mode P decide (fields.site, w) = inr (λ h. h)
 in-mode P decide (fields.value, w) = inr (λ h. h)
 in-mode P decide (fields.mode, w) = decide w
 in-mode P decide (fields.name, w) = inr (λ h. h)
+in-mode P decide (fields.item_name, w) = inr (λ h. h)
 in-mode P decide (fields.program, w) = inr (λ h. h)
 
 from-mode : (P : List ℕ → Type 0) (script : Script) (line : TextLine) (x : Field × List ℕ) → Contains (fields_of script line) x → InMode P x → (w : List ℕ) × Has script line fields.mode w × P w
@@ -108,6 +121,7 @@ from-mode P script line (fields.site, w) c h = absurd h
 from-mode P script line (fields.value, w) c h = absurd h
 from-mode P script line (fields.mode, w) c h = (w, c, h)
 from-mode P script line (fields.name, w) c h = absurd h
+from-mode P script line (fields.item_name, w) c h = absurd h
 from-mode P script line (fields.program, w) c h = absurd h
 
 abbrev InName : (List ℕ → Type 0) → Field × List ℕ → Type 0
@@ -120,6 +134,7 @@ in-name P decide (fields.site, w) = inr (λ h. h)
 in-name P decide (fields.value, w) = inr (λ h. h)
 in-name P decide (fields.mode, w) = inr (λ h. h)
 in-name P decide (fields.name, w) = decide w
+in-name P decide (fields.item_name, w) = inr (λ h. h)
 in-name P decide (fields.program, w) = inr (λ h. h)
 
 from-name : (P : List ℕ → Type 0) (script : Script) (line : TextLine) (x : Field × List ℕ) → Contains (fields_of script line) x → InName P x → (w : List ℕ) × Has script line fields.name w × P w
@@ -128,7 +143,30 @@ from-name P script line (fields.site, w) c h = absurd h
 from-name P script line (fields.value, w) c h = absurd h
 from-name P script line (fields.mode, w) c h = absurd h
 from-name P script line (fields.name, w) c h = (w, c, h)
+from-name P script line (fields.item_name, w) c h = absurd h
 from-name P script line (fields.program, w) c h = absurd h
+
+abbrev InItem : (List ℕ → Type 0) → Field × List ℕ → Type 0
+InItem P (fields.item_name, w) = P w
+InItem P (field, w) = ⊥
+
+in-item : (P : List ℕ → Type 0) → ((w : List ℕ) → Decidable (P w)) → (x : Field × List ℕ) → Decidable (InItem P x)
+in-item P decide (fields.number least most, w) = inr (λ h. h)
+in-item P decide (fields.site, w) = inr (λ h. h)
+in-item P decide (fields.value, w) = inr (λ h. h)
+in-item P decide (fields.mode, w) = inr (λ h. h)
+in-item P decide (fields.name, w) = inr (λ h. h)
+in-item P decide (fields.item_name, w) = decide w
+in-item P decide (fields.program, w) = inr (λ h. h)
+
+from-item : (P : List ℕ → Type 0) (script : Script) (line : TextLine) (x : Field × List ℕ) → Contains (fields_of script line) x → InItem P x → (w : List ℕ) × Has script line fields.item_name w × P w
+from-item P script line (fields.number least most, w) c h = absurd h
+from-item P script line (fields.site, w) c h = absurd h
+from-item P script line (fields.value, w) c h = absurd h
+from-item P script line (fields.mode, w) c h = absurd h
+from-item P script line (fields.name, w) c h = absurd h
+from-item P script line (fields.item_name, w) c h = (w, c, h)
+from-item P script line (fields.program, w) c h = absurd h
 
 abbrev InProgram : Field × List ℕ → Type 0
 InProgram (fields.program, w) = Unit {0}
@@ -140,6 +178,7 @@ in-program (fields.site, w) = inr (λ h. h)
 in-program (fields.value, w) = inr (λ h. h)
 in-program (fields.mode, w) = inr (λ h. h)
 in-program (fields.name, w) = inr (λ h. h)
+in-program (fields.item_name, w) = inr (λ h. h)
 in-program (fields.program, w) = inl tt
 
 from-program : (script : Script) (line : TextLine) (x : Field × List ℕ) → Contains (fields_of script line) x → InProgram x → (w : List ℕ) × Has script line fields.program w
@@ -148,6 +187,7 @@ from-program script line (fields.site, w) c h = absurd h
 from-program script line (fields.value, w) c h = absurd h
 from-program script line (fields.mode, w) c h = absurd h
 from-program script line (fields.name, w) c h = absurd h
+from-program script line (fields.item_name, w) c h = absurd h
 from-program script line (fields.program, w) c h = (w, c)
 
 pub decide-mode : (P : List ℕ → Type 0) → ((w : List ℕ) → Decidable (P w)) → (script : Script) (line : TextLine) → Decidable ((w : List ℕ) × Has script line fields.mode w × P w)
@@ -157,6 +197,10 @@ decide-mode P decide script line =
 pub decide-name : (P : List ℕ → Type 0) → ((w : List ℕ) → Decidable (P w)) → (script : Script) (line : TextLine) → Decidable ((w : List ℕ) × Has script line fields.name w × P w)
 decide-name P decide script line =
     ⊎_elim (λ h. inl (from-name P script line h.0 h.1 h.2)) (λ none. inr (λ h. none ((fields.name, h.0), h.1, h.2))) (decide-some (InName P) (in-name P decide) (fields_of script line))
+
+pub decide-item : (P : List ℕ → Type 0) → ((w : List ℕ) → Decidable (P w)) → (script : Script) (line : TextLine) → Decidable ((w : List ℕ) × Has script line fields.item_name w × P w)
+decide-item P decide script line =
+    ⊎_elim (λ h. inl (from-item P script line h.0 h.1 h.2)) (λ none. inr (λ h. none ((fields.item_name, h.0), h.1, h.2))) (decide-some (InItem P) (in-item P decide) (fields_of script line))
 
 pub decide-text : (script : Script) (line : TextLine) → Decidable ((text : List ℕ) × Has script line fields.program text)
 decide-text script line =

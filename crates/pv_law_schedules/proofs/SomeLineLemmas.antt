@@ -11,9 +11,9 @@ use Rattle.pv_model.specs.LineCauses.{Before, or_default, last_requests, LineCau
 use Rattle.pv_model.specs.Events as events
 use Rattle.pv_model.specs.Events.{Event}
 use Rattle.pv_model.specs.LineForms as fields
-use Rattle.pv_model.specs.LineForms.{Script, scheduled, live, Field, line_forms, leading_word, later_words, first_word, forms_of, takes_program, arguments, form_of, beside}
-use Rattle.pv_model.specs.LiveScript.{Request, FaultPlan}
-use Rattle.pv_model.specs.Schedule.{IsIn, IsDeclaredSite, IsOne, request_word, Says, IsEvent, Declares, new_client, with_request}
+use Rattle.pv_model.specs.LineForms.{Script, scheduled, live, Field, line_forms, leading_word, later_words, first_word, forms_of, takes_program, is_wished, arguments, form_of, beside}
+use Rattle.pv_model.specs.LiveScript.{Request, to_ask, to_peek, FaultPlan}
+use Rattle.pv_model.specs.Schedule.{IsIn, IsDeclaredSite, IsOne, request_word, Says, IsEvent, Declares, new_client, with_wish}
 use Rattle.pv_model.specs.Text.{TextLine, words, number_of_digits, number_of_signed}
 use Rattle.pv_law_schedules.proofs.FirstCauseLemmas.{some-first}
 use Rattle.pv_base.proofs.ContainsLemmas.{Contains-first, Contains-behind}
@@ -332,7 +332,7 @@ client-line before line kind fits first =
     )
 
 asked-line : (before : Before) (line : TextLine) (kind : before.script ≡ live) (query : Bool) → (request_word query ≡ [] → ⊥) → bytes_eq (request_word query) (codes "sites") ≡ false
-    → takes_program (request_word query) ≡ true → HasOnly live (request_word query) 1 (fields.program ∷ []) → (query ≡ true → request_word query ≡ codes "query")
+    → is_wished (request_word query) ≡ true → HasOnly live (request_word query) 1 (fields.program ∷ []) → (query ≡ true → request_word query ≡ codes "query")
     → Handles before line (request_word query)
 asked-line before line kind query some isnt takes only asks fits first =
     let is = reads-only before line (request_word query) (fields.program ∷ []) 1 fits first (only-in before live (request_word query) 1 (fields.program ∷ []) kind only) in
@@ -341,11 +341,11 @@ asked-line before line kind query some isnt takes only asks fits first =
     let program = suit.0 in
     let runs = program.2 in
     let sites = sites-said before line (request_word query) fits first isnt in
-    let asked : takes_program (first_word line) ≡ true = ap takes_program first ∙ takes in
+    let asked : is_wished (first_word line) ≡ true = ap is_wished first ∙ takes in
     let request : Request = record { number = last_requests before.clients; query = query; text = one.0; program = program.0 } in
     inr (
-      record before { clients = with_request before.clients request },
-      inr (inr (inr (inr (inr (record {
+      record before { clients = with_wish before.clients (to_ask request) },
+      inr (inr (inr (inr (inr (inl (record {
         kind = kind;
         text = fits.text;
         sites = sites.0;
@@ -360,15 +360,41 @@ asked-line before line kind query some isnt takes only asks fits first =
         is = program.1;
         may = record { items = runs.items; are = runs.are; some = runs.some; few = runs.few; answers = λ e. runs.answers (asks e) };
         same = refl;
-      }))))),
+      })))))),
+    )
+
+peek-line : (before : Before) (line : TextLine) (kind : before.script ≡ live) → Handles before line (codes "peek")
+unfolding line_forms takes_program is_wished
+peek-line before line kind fits first =
+    let is = reads-only before line (codes "peek") (fields.item_name ∷ []) 1 fits first (only-in before live (codes "peek") 1 (fields.item_name ∷ []) kind (λ n. refl)) in
+    let one = list-one is.given is.many in
+    let suit = rw (one.1) at is.suit in
+    let sites = sites-said before line (codes "peek") fits first refl in
+    let asked : is_wished (first_word line) ≡ true = ap is_wished first in
+    inr (
+      record before { clients = with_wish before.clients (to_peek (last_requests before.clients) suit.0.0) },
+      inr (inr (inr (inr (inr (inr (record {
+        kind = kind;
+        text = fits.text;
+        sites = sites.0;
+        said = sites.1;
+        name = one.0;
+        is = split-words before.script line (codes "peek") (some-word _ _) refl first ∙ ap (λ (ws : List (List ℕ)). codes "peek" ∷ ws) (is.args ∙ one.1);
+        some = λ none. fits.asked ((kind, asked), none);
+        room = below MAX_REQUESTS (last_requests before.clients) (λ many. fits.next ((kind, asked), many));
+        item = suit.0.0;
+        at = suit.0.1;
+        here = suit.0.2;
+        same = refl;
+      })))))),
     )
 
 asked-submit : (before : Before) (line : TextLine) (kind : before.script ≡ live) → Handles before line (codes "submit")
-unfolding line_forms takes_program
+unfolding line_forms takes_program is_wished
 asked-submit before line kind = asked-line before line kind false (some-word _ _) refl refl (λ n. refl) (λ e. absurd (false≢true e))
 
 asked-query : (before : Before) (line : TextLine) (kind : before.script ≡ live) → Handles before line (codes "query")
-unfolding line_forms takes_program
+unfolding line_forms takes_program is_wished
 asked-query before line kind = asked-line before line kind true (some-word _ _) refl refl (λ n. refl) (λ e. refl)
 
 -- A line whose first word is known has one of them.
@@ -445,7 +471,7 @@ handled-live before line kind = (
     journal-line before line,
     (
       item-line before line,
-      (plan-line before line kind, (client-line before line kind, (asked-submit before line kind, (asked-query before line kind, tt)))),
+      (plan-line before line kind, (client-line before line kind, (asked-submit before line kind, (asked-query before line kind, (peek-line before line kind, tt))))),
     ),
   ),
 )

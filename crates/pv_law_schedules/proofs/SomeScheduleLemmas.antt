@@ -93,7 +93,8 @@ keeps before after line (inr (inl x)) = (x.sites, ap (λ (b : Before). b.sites) 
 keeps before after line (inr (inr (inl x))) = (x.sites, ap (λ (b : Before). b.sites) x.same ∙ x.said)
 keeps before after line (inr (inr (inr (inl x)))) = (x.sites, ap (λ (b : Before). b.sites) x.same ∙ x.said)
 keeps before after line (inr (inr (inr (inr (inl x))))) = (x.sites, ap (λ (b : Before). b.sites) x.same ∙ x.said)
-keeps before after line (inr (inr (inr (inr (inr x))))) = (x.sites, ap (λ (b : Before). b.sites) x.same ∙ x.said)
+keeps before after line (inr (inr (inr (inr (inr (inl x)))))) = (x.sites, ap (λ (b : Before). b.sites) x.same ∙ x.said)
+keeps before after line (inr (inr (inr (inr (inr (inr x)))))) = (x.sites, ap (λ (b : Before). b.sites) x.same ∙ x.said)
 
 said-from : {before last : Before} {ls : List TextLine} {es : List Event} → SitesIn before → AreLines before ls es last → SitesIn last
 said-from said (none before) = said
@@ -112,7 +113,8 @@ keeps-script before after line (inr (inl x)) = ap (λ (b : Before). b.script) x.
 keeps-script before after line (inr (inr (inl x))) = ap (λ (b : Before). b.script) x.same
 keeps-script before after line (inr (inr (inr (inl x)))) = ap (λ (b : Before). b.script) x.same
 keeps-script before after line (inr (inr (inr (inr (inl x))))) = ap (λ (b : Before). b.script) x.same
-keeps-script before after line (inr (inr (inr (inr (inr x))))) = ap (λ (b : Before). b.script) x.same
+keeps-script before after line (inr (inr (inr (inr (inr (inl x)))))) = ap (λ (b : Before). b.script) x.same
+keeps-script before after line (inr (inr (inr (inr (inr (inr x)))))) = ap (λ (b : Before). b.script) x.same
 
 no-events : {before last : Before} {ls : List TextLine} {es : List Event} → before.script ≡ live → AreLines before ls es last → es ≡ []
 no-events kind (none before) = refl

@@ -5,20 +5,17 @@ use Rattle.pv_base.specs.declared.limits.TheConstants.{MAX_JOURNAL, MAX_SITES, M
 use Rattle.pv_base.specs.Catalog.{Declared, Item}
 use Rattle.pv_base.proofs.Basics.{Some_inj}
 use Rattle.pv_model.specs.Events.{Event}
-use Rattle.pv_model.specs.LineCauses.{Before, at_first, declared_by, or_default}
+use Rattle.pv_model.specs.LineCauses.{Before, at_first, declared_by, last_requests, or_default}
 use Rattle.pv_model.specs.LineForms.{live}
-use Rattle.pv_model.specs.LiveScript.{Client, LiveScript, Request}
-use Rattle.pv_model.specs.Schedule.{AreLines, none, declaration, event, Declares, DeclaresClient, DeclaresItem, DeclaresJournal, DeclaresPlan, DeclaresRequest, DeclaresSites, IsLiveScript, new_client, significant, with_event, with_one_more, with_request}
+use Rattle.pv_model.specs.LiveScript.{Client, LiveScript, Request, Wish, to_ask, to_peek}
+use Rattle.pv_model.specs.Schedule.{AreLines, none, declaration, event, Declares, DeclaresClient, DeclaresItem, DeclaresJournal, DeclaresPeek, DeclaresPlan, DeclaresRequest, DeclaresSites, IsLiveScript, new_client, significant, with_event, with_one_more, with_wish}
 use Rattle.pv_model.specs.Text.{TextLine}
-use Rattle.pv_law_transcript.specs.Written.{AreNewItems, IsNewItem, IsWritten, IsWrittenRequest}
+use Rattle.pv_law_transcript.specs.Written.{AreNewItems, IsNewItem, IsWritten, IsWrittenWish}
 use Rattle.pv_law_transcript.proofs.RequestLemmas.{request-text}
 
--- Lines of a schedule of this catalog may say the request, and each of the client's.
-abbrev OfRequest : Declared → Request → Type 0
-OfRequest catalog request = IsWrittenRequest catalog request.query request.text request.program
-
+-- Lines of a schedule of this catalog may say each request of the client.
 abbrev OfClient : Declared → Client → Type 0
-OfClient catalog client = All (OfRequest catalog) client.requests
+OfClient catalog client = All (IsWrittenWish catalog) client.requests
 
 abbrev IsFew : Option ℕ → Type 0
 IsFew sites = (n : ℕ) → sites ≡ Some n → (1 ≤ n) × (n ≤ MAX_SITES)
@@ -44,17 +41,17 @@ one-new sites earlier (first ∷ items) item are is =
 none-asks : (catalog : Declared) (clients : List Client) → clients ≡ [] → All (OfClient catalog) clients
 none-asks catalog clients bare = subst (All (OfClient catalog)) (sym bare) (All-nil (OfClient catalog))
 
-one-asks : (catalog : Declared) (clients : List Client) (request : Request) → All (OfClient catalog) clients → OfRequest catalog request
-    → All (OfClient catalog) (with_request clients request)
-one-asks catalog [] request all is = All-nil (OfClient catalog)
-one-asks catalog (client ∷ []) request all is =
-    All-cons (OfClient catalog) (with_one_more client request) []
-    (All-append (OfRequest catalog) client.requests (request ∷ []) (All-head (OfClient catalog) client [] all)
-    (All-cons (OfRequest catalog) request [] is (All-nil (OfRequest catalog))))
+one-asks : (catalog : Declared) (clients : List Client) (wish : Wish) → All (OfClient catalog) clients → IsWrittenWish catalog wish
+    → All (OfClient catalog) (with_wish clients wish)
+one-asks catalog [] wish all is = All-nil (OfClient catalog)
+one-asks catalog (client ∷ []) wish all is =
+    All-cons (OfClient catalog) (with_one_more client wish) []
+    (All-append (IsWrittenWish catalog) client.requests (wish ∷ []) (All-head (OfClient catalog) client [] all)
+    (All-cons (IsWrittenWish catalog) wish [] is (All-nil (IsWrittenWish catalog))))
     (All-nil (OfClient catalog))
-one-asks catalog (client ∷ next ∷ clients) request all is =
-    All-cons (OfClient catalog) client (with_request (next ∷ clients) request) (All-head (OfClient catalog) client (next ∷ clients) all)
-    (one-asks catalog (next ∷ clients) request (All-tail (OfClient catalog) client (next ∷ clients) all) is)
+one-asks catalog (client ∷ next ∷ clients) wish all is =
+    All-cons (OfClient catalog) client (with_wish (next ∷ clients) wish) (All-head (OfClient catalog) client (next ∷ clients) all)
+    (one-asks catalog (next ∷ clients) wish (All-tail (OfClient catalog) client (next ∷ clients) all) is)
 
 -- ## What a line declares
 unsaid : {A : Type 0} (said : Option ℕ) (sites : ℕ) → said ≡ Some sites → said ≡ None → A
@@ -119,21 +116,36 @@ module _ (before after : Before) (line : TextLine) (sound : Sound before) where
         items = sound.items;
         waits = λ is. absurd (let wrong : ⊥ = cc in wrong);
         requests = All-append (OfClient catalog) before.clients (new_client d.site ∷ []) sound.requests
-            (All-cons (OfClient catalog) (new_client d.site) [] (All-nil (OfRequest catalog)) (All-nil (OfClient catalog)));
+            (All-cons (OfClient catalog) (new_client d.site) [] (All-nil (IsWrittenWish catalog)) (All-nil (OfClient catalog)));
       } in
       subst Sound (sym d.same) next
 
   request-sound : DeclaresRequest before line after → Sound after
   request-sound d =
       let catalog : Declared = declared_by before in
-      let next : Sound (record before { clients = with_request before.clients d.request }) =
+      let next : Sound (record before { clients = with_wish before.clients (to_ask d.request) }) =
       record {
         few = sound.few;
         range = sound.range;
         first = λ is. unsaid before.sites d.sites d.said is;
         items = sound.items;
         waits = λ is. absurd (d.some (sound.waits is));
-        requests = one-asks catalog before.clients d.request sound.requests (record { line = request-text before after line d; is = d.is; may = d.may });
+        requests = one-asks catalog before.clients (to_ask d.request) sound.requests (record { line = request-text before after line d; is = d.is; may = d.may });
+      } in
+      subst Sound (sym d.same) next
+
+  peek-sound : DeclaresPeek before line after → Sound after
+  peek-sound d =
+      let catalog : Declared = declared_by before in
+      let wish : Wish = to_peek (last_requests before.clients) d.item in
+      let next : Sound (record before { clients = with_wish before.clients wish }) =
+      record {
+        few = sound.few;
+        range = sound.range;
+        first = λ is. unsaid before.sites d.sites d.said is;
+        items = sound.items;
+        waits = λ is. absurd (d.some (sound.waits is));
+        requests = one-asks catalog before.clients wish sound.requests tt;
       } in
       subst Sound (sym d.same) next
 
@@ -141,7 +153,7 @@ module _ (before after : Before) (line : TextLine) (sound : Sound before) where
   declared-sound d =
       ⊎_elim sites-sound
       (λ other. ⊎_elim journal-sound
-      (λ other. ⊎_elim item-sound (λ own. ⊎_elim plan-sound (λ other. ⊎_elim client-sound request-sound other) own) other)
+      (λ other. ⊎_elim item-sound (λ own. ⊎_elim plan-sound (λ other. ⊎_elim client-sound (λ wish. ⊎_elim request-sound peek-sound wish) other) own) other)
       other)
       d
 

@@ -7,6 +7,7 @@ use Rattle.pv_base.specs.Catalog.{Declared, Item, place_of}
 use Rattle.pv_base.specs.Name.{is_blank, is_name}
 use Rattle.pv_model.specs.Events.{Event, submit, deliver, pump, lose, drop, tick, stop, start, arm, mend, checkpoint, sent, report, total}
 use Rattle.pv_model.specs.LineForms.{before_blanks}
+use Rattle.pv_model.specs.LiveScript.{Wish, to_ask, to_peek}
 use Rattle.pv_model.specs.Meaning.{fits_i64}
 use Rattle.pv_model.specs.ProgramText.{IsProgramText}
 use Rattle.pv_model.specs.Schedule.{MayRun}
@@ -49,6 +50,11 @@ pub record IsWrittenRequest (catalog : Declared) (query : Bool) (text : List ℕ
   pub line : IsLineText text
   pub is : IsProgramText catalog text program
   pub may : MayRun program query
+
+-- Of what a client wants, a request that a line may say; an item that is looked at stands in no schedule.
+abbrev pub IsWrittenWish : Declared → Wish → Type 0
+IsWrittenWish catalog (to_ask request) = IsWrittenRequest catalog request.query request.text request.program
+IsWrittenWish catalog (to_peek number item) = ⊤
 
 -- An event that a line of a schedule of this catalog may say.
 pub data IsWrittenEvent (catalog : Declared) : Event → Type 0 where

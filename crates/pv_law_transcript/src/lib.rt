@@ -14,7 +14,7 @@ ghost use Rattle.pv_model.specs.Schedule.{IsLiveScript, IsSchedule};
 ghost use Rattle.pv_transcript.specs.ScheduleText.{schedule_text};
 ghost use Rattle.pv_transcript.specs.Transcript.{with_reports};
 ghost use Rattle.pv_law_transcript.specs.Merged.{HasWrittenNumber, IsWrittenIntake};
-ghost use Rattle.pv_law_transcript.specs.Written.{AreWritten, IsWritten, IsWrittenRequest};
+ghost use Rattle.pv_law_transcript.specs.Written.{AreWritten, IsWritten, IsWrittenRequest, IsWrittenWish};
 
 /// A schedule that is written out, where its lines can be written, is a schedule of this catalog and these events, and so of no others (a text says one schedule:
 /// pv_law_schedules).
@@ -26,7 +26,7 @@ pub fn written_schedule_reads_back()
 pub fn live_scripts_can_be_written()
     ensures catalog { (text : List ℕ) (script : LiveScript) → IsLiveScript text script → IsWritten script.catalog }
     ensures requests { (text : List ℕ) (script : LiveScript) → IsLiveScript text script →
-        All (λ client. All (λ asked. IsWrittenRequest script.catalog asked.query asked.text asked.program) client.requests) script.clients }
+        All (λ client. All (IsWrittenWish script.catalog) client.requests) script.clients }
 {}
 
 /// If all requests of each client that stand in a history can be written as lines of a schedule, so can all entries of the history that are requests.

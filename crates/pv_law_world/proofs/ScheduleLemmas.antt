@@ -31,7 +31,9 @@ declared-lasts before after line (inr (inr (inr (inl declares)))) =
     subst (Lasts before) (sym declares.same) (record { sites = λ count said. said; items = omega arith })
 declared-lasts before after line (inr (inr (inr (inr (inl declares))))) =
     subst (Lasts before) (sym declares.same) (record { sites = λ count said. said; items = omega arith })
-declared-lasts before after line (inr (inr (inr (inr (inr declares))))) =
+declared-lasts before after line (inr (inr (inr (inr (inr (inl declares)))))) =
+    subst (Lasts before) (sym declares.same) (record { sites = λ count said. said; items = omega arith })
+declared-lasts before after line (inr (inr (inr (inr (inr (inr declares)))))) =
     subst (Lasts before) (sym declares.same) (record { sites = λ count said. said; items = omega arith })
 
 chained : {before mid last : Before} → Lasts before mid → Lasts mid last → Lasts before last

@@ -82,7 +82,10 @@ declared-fine before after line fine (inr (inr (inr (inl declares)))) =
 declared-fine before after line fine (inr (inr (inr (inr (inl declares))))) =
     subst IsSaidInRange (sym declares.same)
     (record { sites = fine.sites; items = fine.items; least = fine.least; journal = fine.journal; homes = fine.homes; values = fine.values })
-declared-fine before after line fine (inr (inr (inr (inr (inr declares))))) =
+declared-fine before after line fine (inr (inr (inr (inr (inr (inl declares)))))) =
+    subst IsSaidInRange (sym declares.same)
+    (record { sites = fine.sites; items = fine.items; least = fine.least; journal = fine.journal; homes = fine.homes; values = fine.values })
+declared-fine before after line fine (inr (inr (inr (inr (inr (inr declares)))))) =
     subst IsSaidInRange (sym declares.same)
     (record { sites = fine.sites; items = fine.items; least = fine.least; journal = fine.journal; homes = fine.homes; values = fine.values })
 

@@ -15,7 +15,8 @@ use Rattle.pv_protocol.specs.Lines.{Line}
 use Rattle.pv_report.specs.NamesOnlyItems.{NamesOnlyItems}
 use Rattle.pv_script.specs.LineView.{line_of}
 use Rattle.pv_script.specs.declared.live.Client.{Client}
-use Rattle.pv_script.specs.declared.live.Request.{Request}
+use Rattle.pv_script.specs.declared.live.Wish.{Wish}
+use Rattle.pv_script.specs.declared.live.Wish.TheVariants.{Do, Peek}
 use Rattle.pv_told.specs.Along.{line_by}
 use Rattle.pv_told.specs.declared.line.ClientLine.{ClientLine}
 use Rattle.pv_told.specs.declared.line.ClientWhat.{ClientWhat}
@@ -40,23 +41,25 @@ module _ {W : Type 0} (catalog : Declared) (boxes : List (SiteBox W)) (printed :
     (there : (n : ℕ) (asker : Asker) (line : Line) → n < length boxes → line_by n asker (history_of (histories_of boxes) n) ≡ Some line → Contains printed line)
     (numbers : (n : ℕ) (any : SiteBox W) → n < length boxes → (get_or boxes n any).site.me ≡ n) where
   -- What is told by the box of a site is printed of the run.
-  line-fine : (n : ℕ) (any : SiteBox W) (place k : ℕ) (request : Request) (number : ℕ) (said : ClientWhat) → n < length boxes
-      → IsLineOf (get_or boxes n any) place k request (record { request = number; what = said }) → WhatNamesOnlyItems catalog said
-  line-fine n any place k request number (what.Line line) below one =
+  line-fine : (n : ℕ) (any : SiteBox W) (place k : ℕ) (wish : Wish) (number : ℕ) (said : ClientWhat) → n < length boxes
+      → IsLineOf (get_or boxes n any) place k wish (record { request = number; what = said }) → WhatNamesOnlyItems catalog said
+  line-fine n any place k (Do request) number (what.Line line) below one =
       let asker : Asker = record { client = place; number = k } in
       let by : line_by n asker (history_of (histories_of boxes) n) ≡ Some (line_of line) =
       (λ i. line_by (sym (numbers n any below) i) asker (history-at boxes n any below i)) ∙ one.heard in
       All-contains (NamesOnlyItems catalog) printed (line_of line) fine (there n asker (line_of line) below by)
-  line-fine n any place k request number what.Worn below one = tt
-  line-fine n any place k request number what.NoMemory below one = tt
+  line-fine n any place k (Peek asked item) number (what.Line line) below one = absurd one.1
+  line-fine n any place k wish number (what.Peek peek) below one = tt
+  line-fine n any place k wish number what.Worn below one = tt
+  line-fine n any place k wish number what.NoMemory below one = tt
 
   lines-fine : (n : ℕ) (any : SiteBox W) (place : ℕ) (client : Client) (lines : List ClientLine) → n < length boxes → IsServed (get_or boxes n any) place client lines
       → All (ToldNamesOnlyItems catalog) lines
   lines-fine n any place client lines below served = λ j d within.
       let many = served.lines_are.0 in
       let inside : j < length client.requests.items = omega (arith, many, within) in
-      let request = element client.requests.items j inside in
-      line-fine n any place j (get_or client.requests.items j request) (get_or lines j d).request (get_or lines j d).what below (served.lines_are.1 j request d inside)
+      let wish = element client.requests.items j inside in
+      line-fine n any place j (get_or client.requests.items j wish) (get_or lines j d).request (get_or lines j d).what below (served.lines_are.1 j wish d inside)
 
   module _ (clients : List Client) (told : List (Vec ClientLine Global)) (served : AreServed boxes clients told)
       (fit : (k : ℕ) (any : Client) → k < length clients → ((get_or clients k any).site.0 < length boxes) × (length (get_or clients k any).requests.items ≤ MAX_REQUESTS)) where

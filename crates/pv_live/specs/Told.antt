@@ -1,16 +1,18 @@
 -- What clients were told, as the text of a live run has it.
 use Rattle.std.specs.Prelude.{◌≡◌, ℕ, ◌<◌, ◌^◌, Vec, List, All, [], ◌∷◌, length, map}
 use Rattle.std.specs.declared.alloc.Global.{Global}
+use Rattle.pv_closing.specs.Lines.{reading_of}
 use Rattle.pv_script.specs.LineView.{line_of}
 use Rattle.pv_script.specs.declared.live.Client.{Client}
 use Rattle.pv_told.specs.declared.line.ClientLine.{ClientLine}
 use Rattle.pv_told.specs.declared.line.ClientWhat.{ClientWhat}
 use Rattle.pv_told.specs.declared.line.ClientWhat.TheVariants as what
-use Rattle.pv_transcript.specs.Heard.{Heard, line, worn, no_memory}
+use Rattle.pv_transcript.specs.Heard.{Heard, line, worn, no_memory, peeked}
 
 -- what a client of this site heard
 abbrev pub heard_by : (site : ℕ) → ClientWhat → Heard
 heard_by site (what.Line said) = line (line_of said)
+heard_by site (what.Peek peek) = peeked peek.steps (reading_of site peek.face)
 heard_by site what.Worn = worn site
 heard_by site what.NoMemory = no_memory
 

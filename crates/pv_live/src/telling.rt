@@ -2,12 +2,17 @@
 ghost use Rattle.std.specs.Prelude.{◌≡◌, ◌<◌, ◌^◌, ◌++◌, All, OnOk, length};
 ghost use Rattle.pv_live.specs.Naming.{AllNameOnlyItems, ToldNamesOnlyItems, WhatNamesOnlyItems};
 ghost use Rattle.pv_live.specs.Told.{AreFew, all_heard_by, heard_by, heard_of};
-ghost use Rattle.pv_transcript.specs.Heard.{client_text, clients_text, heard_line};
+ghost use Rattle.pv_base.specs.Catalog.{Declared};
+ghost use Rattle.pv_closing.specs.Lines.{reading_of};
+ghost use Rattle.pv_transcript.specs.Heard.{client_text, clients_text, heard_line, peeked};
 
 use pv_base::{Catalog, NoMemory, SiteId};
 use pv_script::Client;
+use pv_shelf::{Face, Peek};
 use pv_told::{ClientLine, ClientWhat};
-use pv_transcript::{push_heard, push_no_memory, push_worn};
+use pv_transcript::{
+    push_heard, push_no_memory, push_peeked, push_peeked_down, push_peeked_locked, push_worn,
+};
 
 /// The lines of all clients, each put after what the buffer holds.
 pub(crate) fn push_clients(
@@ -48,7 +53,7 @@ fn push_client(
     Ok(())
 }
 
-// The line of one request.
+// The line of one thing that the client wants.
 fn push_told(
     text: &mut Vec<u8>,
     client: u32,
@@ -62,7 +67,25 @@ fn push_told(
 {
     match what {
         ClientWhat::Line(line) => push_heard(text, client, request, line, catalog),
+        ClientWhat::Peek(peek) => push_peek(text, client, request, site, peek),
         ClientWhat::Worn => push_worn(text, client, request, site),
         ClientWhat::NoMemory => push_no_memory(text, client, request),
+    }
+}
+
+// The line of one look of a client of this site.
+fn push_peek(
+    text: &mut Vec<u8>,
+    client: u32,
+    request: u32,
+    site: SiteId,
+    peek: &Peek,
+) -> Result<(), NoMemory>
+    ensures { (catalog : Declared) → OnOk result (text.new.items ≡ text.old.items ++ heard_line catalog client request (peeked peek.now.steps (reading_of site.0 peek.now.face))) }
+{
+    match &peek.face {
+        Face::Cases(value) => push_peeked(text, client, request, peek.steps, value.cases()),
+        Face::Locked(holder) => push_peeked_locked(text, client, request, peek.steps, *holder),
+        Face::Down => push_peeked_down(text, client, request, peek.steps, site),
     }
 }

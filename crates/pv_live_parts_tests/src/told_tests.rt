@@ -1,7 +1,7 @@
 // What a client hears of each of its requests, by a history in which one commits, the site fails at the next, and is down at the third.
 use pv_base::{Reply, SiteId, TxnId};
 use pv_history::{Entry, Seen, Taken};
-use pv_script::{MAX_SCHEDULE, Request, read_live};
+use pv_script::{MAX_SCHEDULE, Request, Wish, read_live};
 use pv_site::Note;
 use pv_told::{has_line, lines_of_client};
 use std::alloc::Global;
@@ -22,8 +22,8 @@ submit a := a + 2
 submit a := a + 3
 ";
 
-// the requests of the script's client
-fn requests(alloc: Global) -> Result<Vec<Request>, Fail> {
+// what the script's client wants
+fn wishes(alloc: Global) -> Result<Vec<Wish>, Fail> {
     if SCRIPT.len() > MAX_SCHEDULE {
         return Err("a script is short".into());
     }
@@ -69,9 +69,11 @@ fn committed(alloc: Global) -> Result<Entry, Fail> {
 // the history
 fn history(alloc: Global) -> Result<Vec<Entry>, Fail> {
     let mut history = Vec::new(alloc);
-    for request in requests(alloc)? {
-        let seen = seen(alloc, request.number)?;
-        history.push(asked(u64::from(request.number), request, seen))?;
+    for wish in wishes(alloc)? {
+        if let Wish::Do(request) = wish {
+            let seen = seen(alloc, request.number)?;
+            history.push(asked(u64::from(request.number), request, seen))?;
+        }
     }
     history.push(committed(alloc)?)?;
     Ok(history)

@@ -26,6 +26,8 @@ pub data Field : Type 0 where
   value : Field
   mode : Field
   name : Field
+  -- the name of an item that is declared
+  item_name : Field
   program : Field
 
 -- the forms of the lines that each kind of script has, before others
@@ -51,7 +53,8 @@ line_forms live =
     with_declarations (
     (codes "plan", number 0 (2 ^ 32 - 1) ∷ number 0 (2 ^ 32 - 1) ∷ [])
     ∷ (codes "client", site ∷ [])
-    ∷ (codes "submit", program ∷ []) ∷ (codes "query", program ∷ []) ∷ []
+    ∷ (codes "submit", program ∷ []) ∷ (codes "query", program ∷ [])
+    ∷ (codes "peek", item_name ∷ []) ∷ []
     )
 
 -- the first word of a line that counts
@@ -69,6 +72,10 @@ forms_of script word = map (λ form. form.1) (filter (λ form. bytes_eq word for
 -- Whether lines with this first word are requests: a program stands at their end.
 unfoldable pub takes_program : List ℕ → Bool
 takes_program word = bytes_eq word (codes "submit") || bytes_eq word (codes "query")
+
+-- Whether a client wants something by lines with this first word: a request is to run, or an item is looked at.
+unfoldable pub is_wished : List ℕ → Bool
+is_wished word = takes_program word || bytes_eq word (codes "peek")
 
 -- what is after the blanks at the front
 abbrev pub after_blanks : List ℕ → List ℕ

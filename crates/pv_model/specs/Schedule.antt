@@ -5,12 +5,12 @@ use Rattle.pv_base.specs.Catalog.{Item, place_of}
 use Rattle.pv_base.specs.Name.{is_name}
 use Rattle.pv_base.specs.declared.mode.Mode.{Mode}
 use Rattle.pv_base.specs.declared.mode.Mode.TheVariants.{Lost, Kept, Torn}
-use Rattle.pv_model.specs.LineCauses.{Before, at_first, or_default, declared_by, last_requests, LineCause, sites_expected, IsFirstCause}
+use Rattle.pv_model.specs.LineCauses.{Before, at_first, or_default, declared_by, last_requests, last_site, home_of, LineCause, sites_expected, IsFirstCause}
 use Rattle.pv_model.specs.Check.{AreItems, has_assignment, has_return}
 use Rattle.pv_model.specs.Events.{Event, submit, deliver, pump, lose, drop, tick, stop, start, arm, mend, checkpoint, sent, report, total, Schedule}
 use Rattle.pv_model.specs.FirstMisplaced.{without_numbers}
 use Rattle.pv_model.specs.LineForms.{Script, scheduled, live, most_bytes, arguments}
-use Rattle.pv_model.specs.LiveScript.{Request, Client, FaultPlan, LiveScript}
+use Rattle.pv_model.specs.LiveScript.{Request, Wish, to_ask, to_peek, Client, FaultPlan, LiveScript}
 use Rattle.pv_model.specs.Meaning.{fits_i64}
 use Rattle.pv_model.specs.ProgramText.{IsProgramText}
 use Rattle.pv_model.specs.Syntax.{Program}
@@ -149,19 +149,19 @@ pub record DeclaresPlan (before : Before) (line : TextLine) (after : Before) : T
   pub doubles : IsIn 0 (2 ^ 32 - 1) doubled fault_plan.double_each
   pub same : after ≡ record before { fault_plan = Some fault_plan }
 
--- a client that has asked for nothing
+-- a client that wants nothing yet
 abbrev pub new_client : ℕ → Client
 new_client site = record { site = site; requests = [] }
 
--- a client with one request more
-abbrev pub with_one_more : Client → Request → Client
-with_one_more client request = record client { requests = client.requests ++ request ∷ [] }
+-- a client that wants one thing more
+abbrev pub with_one_more : Client → Wish → Client
+with_one_more client wish = record client { requests = client.requests ++ wish ∷ [] }
 
--- clients, of which the last has one request more
-abbrev pub with_request : List Client → Request → List Client
-with_request [] request = []
-with_request (client ∷ []) request = with_one_more client request ∷ []
-with_request (client ∷ next ∷ clients) request = client ∷ with_request (next ∷ clients) request
+-- clients, of which the last wants one thing more
+abbrev pub with_wish : List Client → Wish → List Client
+with_wish [] wish = []
+with_wish (client ∷ []) wish = with_one_more client wish ∷ []
+with_wish (client ∷ next ∷ clients) wish = client ∷ with_wish (next ∷ clients) wish
 
 -- `client SITE` in a live script, the last client so far
 pub record DeclaresClient (before : Before) (line : TextLine) (after : Before) : Type 0 where
@@ -189,11 +189,27 @@ pub record DeclaresRequest (before : Before) (line : TextLine) (after : Before) 
   pub number : request.number ≡ last_requests before.clients
   pub is : IsProgramText (declared_by before) request.text request.program
   pub may : MayRun request.program request.query
-  pub same : after ≡ record before { clients = with_request before.clients request }
+  pub same : after ≡ record before { clients = with_wish before.clients (to_ask request) }
+
+-- `peek NAME` in a live script: the last client so far wants to look at an item of its site
+pub record DeclaresPeek (before : Before) (line : TextLine) (after : Before) : Type 0 where
+  pub kind : before.script ≡ live
+  pub text : IsText (most_bytes before.script) line
+  pub sites : ℕ
+  pub said : before.sites ≡ Some sites
+  pub name : List ℕ
+  pub is : words line ≡ codes "peek" ∷ name ∷ []
+  pub some : before.clients ≢ []
+  pub room : last_requests before.clients < MAX_REQUESTS
+  pub item : ℕ
+  pub at : place_of name before.items ≡ Some item
+  pub here : home_of before.items item ≡ last_site before.clients
+  pub same : after ≡ record before { clients = with_wish before.clients (to_peek (last_requests before.clients) item) }
 
 -- The line declares something that a live script alone has.
 abbrev pub DeclaresLive : Before → TextLine → Before → Type 0
-DeclaresLive before line after = DeclaresPlan before line after ⊎ (DeclaresClient before line after ⊎ DeclaresRequest before line after)
+DeclaresLive before line after =
+    DeclaresPlan before line after ⊎ (DeclaresClient before line after ⊎ (DeclaresRequest before line after ⊎ DeclaresPeek before line after))
 
 -- The line declares something.
 abbrev pub Declares : Before → TextLine → Before → Type 0

@@ -16,9 +16,10 @@ use Rattle.pv_mail.specs.declared.answer.Answer.{Answer}
 use Rattle.pv_model.specs.LiveScript as model
 use Rattle.pv_post.specs.declared.inlet.In.{In}
 use Rattle.pv_post.specs.declared.outlet.Out.{Out}
-use Rattle.pv_script.specs.LiveView.{request_of}
+use Rattle.pv_script.specs.LiveView.{wish_of}
 use Rattle.pv_script.specs.declared.live.Client as script
 use Rattle.pv_script.specs.declared.live.Request.{Request}
+use Rattle.pv_script.specs.declared.live.Wish.{Wish}
 use Rattle.pv_opening.proofs.PlaceLemmas.{last-place, left-place}
 use Rattle.pv_opening.specs.Counts.{count_at}
 use Rattle.pv_opening.specs.Meeting.{AreMet, IsAsking, IsMet, IsTelling}
@@ -93,14 +94,22 @@ module _ {A : Type 0} (row : ℕ) (one : A) (old new : List (Vec A Global)) (add
       (before, slice_get-get_or old n after within, λ same. ap (λ (v : Vec A Global). v.items) (sym is) ∙ now.0 same, λ isnt. ap (λ (v : Vec A Global). v.items) (sym is) ∙ now.1 isnt)
 
 -- ## Copies
-pub copied-more : (copies requests : List Request) (i : ℕ) (copy request : Request) (all : List model.Request)
-    → map request_of copies ++ map request_of (drop i requests) ≡ all → i < length requests → request ≡ get_or requests i request
-    → request_of copy ≡ request_of request → map request_of (copies ++ copy ∷ []) ++ map request_of (drop (i + 1) requests) ≡ all
-copied-more copies requests i copy request all before less is same =
-    ap (λ l. l ++ map request_of (drop (i + 1) requests)) (map-append request_of copies (copy ∷ []))
-    ∙ append_assoc (map request_of copies) (request_of copy ∷ []) (map request_of (drop (i + 1) requests))
-    ∙ ap (λ (r : model.Request). map request_of copies ++ r ∷ map request_of (drop (i + 1) requests)) (same ∙ ap request_of is)
-    ∙ ap (λ l. map request_of copies ++ map request_of l) (sym (drop_more requests i request less))
+-- the requests among wishes, of which the first is put apart
+among-first : (wish : model.Wish) (wishes : List model.Wish) → model.requests_among (wish ∷ wishes) ≡ model.requests_among (wish ∷ []) ++ model.requests_among wishes
+among-first (model.to_ask request) wishes = refl
+among-first (model.to_peek number item) wishes = refl
+
+-- The requests among the wishes left, when one more was copied where it is one.
+pub copied-more : (copied more : List model.Request) (wishes : List Wish) (i : ℕ) (wish : Wish) (all : List model.Request)
+    → copied ++ model.requests_among (map wish_of (drop i wishes)) ≡ all → i < length wishes → wish ≡ get_or wishes i wish
+    → more ≡ copied ++ model.requests_among (wish_of wish ∷ []) → more ++ model.requests_among (map wish_of (drop (i + 1) wishes)) ≡ all
+copied-more copied more wishes i wish all before less is grown =
+    let left = map wish_of (drop (i + 1) wishes) in
+    ap (λ l. l ++ model.requests_among left) grown
+    ∙ append_assoc copied (model.requests_among (wish_of wish ∷ [])) (model.requests_among left)
+    ∙ ap (λ l. copied ++ l) (sym (among-first (wish_of wish) left))
+    ∙ ap (λ (w : Wish). copied ++ model.requests_among (wish_of w ∷ left)) is
+    ∙ ap (λ l. copied ++ model.requests_among (map wish_of l)) (sym (drop_more wishes i wish less))
     ∙ before
 
 -- ## One client more

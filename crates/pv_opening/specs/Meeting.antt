@@ -10,14 +10,14 @@ use Rattle.pv_post.specs.Ends.{IsPair, posted}
 use Rattle.pv_post.specs.declared.inlet.In.{In}
 use Rattle.pv_post.specs.declared.outlet.Out.{Out}
 use Rattle.pv_rings.specs.Rings.{Each}
-use Rattle.pv_script.specs.LiveView.{request_of}
+use Rattle.pv_script.specs.LiveView.{request_of, requests_by}
 use Rattle.pv_script.specs.declared.live.Client as script
 use Rattle.pv_script.specs.declared.live.Request.{Request}
 use Rattle.pv_opening.specs.Counts.{count_at}
 
 -- The client has asked for nothing yet, and is to ask for what its script says.
 abbrev pub IsToAsk : script.Client → Client Request Answer → Type 0
-IsToAsk client met = (map request_of met.script.items ≡ map request_of client.requests.items) × (posted met.asks ≡ [])
+IsToAsk client met = (map request_of met.script.items ≡ requests_by client) × (posted met.asks ≡ [])
 
 -- It asks by a new ring, whose other end is one more in the row of its site.
 abbrev pub IsAsking : script.Client → Client Request Answer → List (Vec (In Request) Global) → List (Vec (In Request) Global) → Type 0

@@ -15,7 +15,7 @@ use Rattle.pv_post.specs.declared.fault_plan.FaultPlan.{FaultPlan}
 use Rattle.pv_post.specs.declared.inlet.In.{In}
 use Rattle.pv_post.specs.declared.outlet.Out.{Out}
 use Rattle.pv_rings.specs.Rings.{Each}
-use Rattle.pv_script.specs.LiveView.{request_of}
+use Rattle.pv_script.specs.LiveView.{request_of, requests_by}
 use Rattle.pv_script.specs.declared.live.Client as script
 use Rattle.pv_script.specs.declared.live.LiveScript.{LiveScript}
 use Rattle.pv_script.specs.declared.live.Request.{Request}
@@ -44,7 +44,7 @@ module _ {W : Type 0} where
   -- It has asked for nothing yet, and is to ask for what this client of the script says, by a ring to its site's box, and to hear by one back.
   abbrev pub IsToAskOf : List (SiteBox W) → ℕ → script.Client → Client Request Answer → Type 0
   IsToAskOf boxes place client met =
-      (map request_of met.script.items ≡ map request_of client.requests.items) × (posted met.asks ≡ [])
+      (map request_of met.script.items ≡ requests_by client) × (posted met.asks ≡ [])
       × ((any : SiteBox W) → AsksBox place met.asks (get_or boxes client.site.0 any))
       × ((any : SiteBox W) → HearsBox place met.hears (get_or boxes client.site.0 any))
 

@@ -1,7 +1,8 @@
 // The clients of a script, with rings to the boxes of their sites.
-ghost use Rattle.std.specs.Prelude.{◌≡◌, ◌<◌, [], All, IfOk, OnOk, length, map};
+ghost use Rattle.std.specs.Prelude.{◌≡◌, ◌<◌, [], ◌∷◌, ◌++◌, All, IfOk, OnOk, length, map};
 ghost use Rattle.pv_links.specs.Rows.{AddsTo};
-ghost use Rattle.pv_script.specs.LiveView.{request_of};
+ghost use Rattle.pv_model.specs.LiveScript.{requests_among};
+ghost use Rattle.pv_script.specs.LiveView.{request_of, wish_of};
 ghost use Rattle.pv_opening.specs.Meeting.{AreMet, IsAsking, IsTelling};
 
 use pv_base::NoMemory;
@@ -9,7 +10,7 @@ use pv_crew::Client;
 use pv_links::push_to;
 use pv_mail::{Answer, copy_request};
 use pv_post::{FaultPlan, In, Out, pair};
-use pv_script::{Client as Asking, Request};
+use pv_script::{Client as Asking, Request, Wish};
 use std::alloc::Global;
 
 /// On the rings to and from clients no message fails.
@@ -61,14 +62,24 @@ fn meet(
     Ok(met)
 }
 
-// Equal requests, in order.
-fn copies(alloc: Global, requests: &[Request]) -> Result<Vec<Request>, NoMemory>
-    ensures { IfOk result (λ copies. map request_of copies.items ≡ map request_of requests.now) }
+// Requests equal to those among these, in order.
+fn copies(alloc: Global, wishes: &[Wish]) -> Result<Vec<Request>, NoMemory>
+    ensures { IfOk result (λ copies. map request_of copies.items ≡ requests_among (map wish_of wishes.now)) }
 {
     let mut copies = Vec::new(alloc);
-    for request in requests {
+    for wish in wishes {
+        push_copy(alloc, &mut copies, wish)?;
+    }
+    Ok(copies)
+}
+
+// One more, where it is a request.
+fn push_copy(alloc: Global, copies: &mut Vec<Request>, wish: &Wish) -> Result<(), NoMemory>
+    ensures { OnOk result (map request_of copies.new.items ≡ map request_of copies.old.items ++ requests_among (wish_of wish.now ∷ [])) }
+{
+    if let Wish::Do(request) = wish {
         let copy = copy_request(alloc, request)?;
         copies.push(copy)?;
     }
-    Ok(copies)
+    Ok(())
 }

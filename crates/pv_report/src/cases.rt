@@ -1,10 +1,24 @@
 // An item's cases.
-ghost use Rattle.std.specs.Prelude.{◌≡◌, ◌++◌, codes, flat_map, if◌then◌else◌, OnOk};
+ghost use Rattle.std.specs.Prelude.{◌≡◌, ◌++◌, codes, flat_map, if◌then◌else◌, OnErr, OnOk};
 ghost use Rattle.pv_protocol.specs.LineText.{case_text, cases_text, literal_text, spaced, when_text};
 ghost use Rattle.pv_report.specs.StillHeld.{StillHeld};
 
 use crate::pieces::push_signed;
 use pv_base::{Case, Literal, NoMemory, push_txn};
+
+/// Puts the cases of a value, parted by ` ; `, after what the buffer holds. After an error the buffer is as it was. Takes time in proportion to their text.
+pub fn push_value(text: &mut Vec<u8>, cases: &[Case<i64>]) -> Result<(), NoMemory>
+    ensures text { OnOk result (text.new.items ≡ text.old.items ++ cases_text cases.now) }
+    ensures unchanged { OnErr result (text.new.items ≡ text.old.items) }
+{
+    let before = text.len();
+    let pushed = push_cases(text, cases);
+    // Cases that find no memory leave a part of them behind.
+    if pushed.is_err() {
+        text.truncate(before);
+    }
+    pushed
+}
 
 // The cases, parted by ` ; `.
 pub(crate) fn push_cases(text: &mut Vec<u8>, cases: &[Case<i64>]) -> Result<(), NoMemory>

@@ -23,7 +23,8 @@ not-behind before after line sites kind said begun (inr (inl journal)) = false�
 not-behind before after line sites kind said begun (inr (inr (inl item))) = false≢true (sym item.early ∙ begun)
 not-behind before after line sites kind said begun (inr (inr (inr (inl plan)))) = false≢true (sym plan.early ∙ begun)
 not-behind before after line sites kind said begun (inr (inr (inr (inr (inl client))))) = let same : live ≡ scheduled = sym client.kind ∙ kind in let wrong : ⊥ = cc in wrong
-not-behind before after line sites kind said begun (inr (inr (inr (inr (inr request))))) = let same : live ≡ scheduled = sym request.kind ∙ kind in let wrong : ⊥ = cc in wrong
+not-behind before after line sites kind said begun (inr (inr (inr (inr (inr (inl request)))))) = let same : live ≡ scheduled = sym request.kind ∙ kind in let wrong : ⊥ = cc in wrong
+not-behind before after line sites kind said begun (inr (inr (inr (inr (inr (inr peek)))))) = let same : live ≡ scheduled = sym peek.kind ∙ kind in let wrong : ⊥ = cc in wrong
 
 -- So each line behind an event is one.
 all-events : {before last : Before} {lines : List TextLine} {events : List Event} → AreLines before lines events last → (sites : ℕ) → before.script ≡ scheduled

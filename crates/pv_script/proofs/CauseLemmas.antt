@@ -5,10 +5,11 @@ use Rattle.std.specs.List.{list_all, Contains}
 use Rattle.std.proofs.lemmas.Option.{none-some}
 use Rattle.std.proofs.lemmas.Bool.{both_ways}
 use Rattle.pv_model.specs.LineCauses as model
-use Rattle.pv_model.specs.LineCauses.{Before, too_long, not_text, sites_expected, unknown_word, twice, too_late, wrong_count, client_expected, too_many_clients, too_many_requests, bad_number, bad_mode, bad_name, name_taken, too_many_items, at_program, names_no_item, too_many_names, query_assigns, line_cause_rank, HasLineCause, or_default}
-use Rattle.pv_model.specs.LineForms.{Script, scheduled, most_bytes, with_text, Field, mode, leading_word, first_word, forms_of, takes_program, program_text, arguments, form_of, fields_in, fields_of, has_good_number}
+use Rattle.pv_model.specs.LineCauses.{Before, too_long, not_text, sites_expected, unknown_word, twice, too_late, wrong_count, client_expected, too_many_clients, too_many_requests, no_such_item, other_site, bad_number, bad_mode, bad_name, name_taken, too_many_items, at_program, names_no_item, too_many_names, query_assigns, line_cause_rank, Has, HasLineCause, or_default}
+use Rattle.pv_model.specs.LineForms.{Script, scheduled, most_bytes, with_text, Field, mode, item_name, leading_word, first_word, forms_of, takes_program, is_wished, program_text, arguments, form_of, fields_in, fields_of, has_good_number}
 use Rattle.pv_model.specs.ProgramText.{Kind}
 use Rattle.pv_law_schedules.proofs.LineFormLemmas.{kinds-differ}
+use Rattle.pv_law_schedules.proofs.NoCauseLemmas.{no-item, no-item-scheduled}
 use Rattle.pv_model.specs.Text.{TextLine, is_text_byte, IsText, words}
 use Rattle.pv_script.specs.ScriptErrors.{line_cause_of}
 use Rattle.pv_script.specs.LineFaults.{form_among, IsFieldFault, IsLineFault}
@@ -65,41 +66,49 @@ module _ (before : Before) (line : TextLine) where
   none10 none refuted too_many_requests has = absurd (refuted has)
   none10 none refuted cause has = let more = none cause has in omega arith
 
-  pub none11 : NoneBefore before line 10 → (HasLineCause before line bad_number → ⊥) → NoneBefore before line 11
-  none11 none refuted bad_number has = absurd (refuted has)
+  pub none11 : NoneBefore before line 10 → (HasLineCause before line no_such_item → ⊥) → NoneBefore before line 11
+  none11 none refuted no_such_item has = absurd (refuted has)
   none11 none refuted cause has = let more = none cause has in omega arith
 
-  pub none12 : NoneBefore before line 11 → (HasLineCause before line bad_mode → ⊥) → NoneBefore before line 12
-  none12 none refuted bad_mode has = absurd (refuted has)
+  pub none12 : NoneBefore before line 11 → (HasLineCause before line other_site → ⊥) → NoneBefore before line 12
+  none12 none refuted other_site has = absurd (refuted has)
   none12 none refuted cause has = let more = none cause has in omega arith
 
-  pub none13 : NoneBefore before line 12 → (HasLineCause before line bad_name → ⊥) → NoneBefore before line 13
-  none13 none refuted bad_name has = absurd (refuted has)
+  pub none13 : NoneBefore before line 12 → (HasLineCause before line bad_number → ⊥) → NoneBefore before line 13
+  none13 none refuted bad_number has = absurd (refuted has)
   none13 none refuted cause has = let more = none cause has in omega arith
 
-  pub none14 : NoneBefore before line 13 → (HasLineCause before line name_taken → ⊥) → NoneBefore before line 14
-  none14 none refuted name_taken has = absurd (refuted has)
+  pub none14 : NoneBefore before line 13 → (HasLineCause before line bad_mode → ⊥) → NoneBefore before line 14
+  none14 none refuted bad_mode has = absurd (refuted has)
   none14 none refuted cause has = let more = none cause has in omega arith
 
-  pub none15 : NoneBefore before line 14 → (HasLineCause before line too_many_items → ⊥) → NoneBefore before line 15
-  none15 none refuted too_many_items has = absurd (refuted has)
+  pub none15 : NoneBefore before line 14 → (HasLineCause before line bad_name → ⊥) → NoneBefore before line 15
+  none15 none refuted bad_name has = absurd (refuted has)
   none15 none refuted cause has = let more = none cause has in omega arith
 
-  pub none16 : NoneBefore before line 15 → ((kind : Kind) (column : ℕ) → HasLineCause before line (at_program kind column) → ⊥) → NoneBefore before line 16
-  none16 none refuted (at_program kind column) has = absurd (refuted kind column has)
+  pub none16 : NoneBefore before line 15 → (HasLineCause before line name_taken → ⊥) → NoneBefore before line 16
+  none16 none refuted name_taken has = absurd (refuted has)
   none16 none refuted cause has = let more = none cause has in omega arith
 
-  pub none17 : NoneBefore before line 16 → (HasLineCause before line names_no_item → ⊥) → NoneBefore before line 17
-  none17 none refuted names_no_item has = absurd (refuted has)
+  pub none17 : NoneBefore before line 16 → (HasLineCause before line too_many_items → ⊥) → NoneBefore before line 17
+  none17 none refuted too_many_items has = absurd (refuted has)
   none17 none refuted cause has = let more = none cause has in omega arith
 
-  pub none18 : NoneBefore before line 17 → ((n : ℕ) → HasLineCause before line (too_many_names n) → ⊥) → NoneBefore before line 18
-  none18 none refuted (too_many_names n) has = absurd (refuted n has)
+  pub none18 : NoneBefore before line 17 → ((kind : Kind) (column : ℕ) → HasLineCause before line (at_program kind column) → ⊥) → NoneBefore before line 18
+  none18 none refuted (at_program kind column) has = absurd (refuted kind column has)
   none18 none refuted cause has = let more = none cause has in omega arith
 
-  pub none19 : NoneBefore before line 18 → (HasLineCause before line query_assigns → ⊥) → NoneBefore before line 19
-  none19 none refuted query_assigns has = absurd (refuted has)
+  pub none19 : NoneBefore before line 18 → (HasLineCause before line names_no_item → ⊥) → NoneBefore before line 19
+  none19 none refuted names_no_item has = absurd (refuted has)
   none19 none refuted cause has = let more = none cause has in omega arith
+
+  pub none20 : NoneBefore before line 19 → ((n : ℕ) → HasLineCause before line (too_many_names n) → ⊥) → NoneBefore before line 20
+  none20 none refuted (too_many_names n) has = absurd (refuted n has)
+  none20 none refuted cause has = let more = none cause has in omega arith
+
+  pub none21 : NoneBefore before line 20 → (HasLineCause before line query_assigns → ⊥) → NoneBefore before line 21
+  none21 none refuted query_assigns has = absurd (refuted has)
+  none21 none refuted cause has = let more = none cause has in omega arith
 
 -- ---- what is reported first
 
@@ -168,27 +177,38 @@ none-known before line word args head known =
 
 -- No cause that a live script alone has comes between the count of the words and their numbers.
 abbrev pub NoneBetween : Before → TextLine → Type 0
-NoneBetween before line = NoneBefore before line 7 → NoneBefore before line 10
+NoneBetween before line = NoneBefore before line 7 → NoneBefore before line 12
 
--- A line whose first word is neither of a request nor `client` has none of these causes.
-pub none-between : (before : Before) (line : TextLine) (word : List ℕ) → first_word line ≡ word → takes_program word ≡ false → (word ≡ codes "client" → ⊥)
+-- A line in which no item is named to be looked at has neither of the causes of such a name.
+pub none-named_item : (before : Before) (line : TextLine) → ((word : List ℕ) → Has before.script line item_name word → ⊥) → NoneBefore before line 10 → NoneBefore before line 12
+none-named_item before line unnamed none =
+    none12 before line (none11 before line none (λ has. unnamed has.0 has.1)) (λ has. unnamed has.0 has.2)
+
+peek-wished : (word : List ℕ) → is_wished word ≡ false → word ≡ codes "peek" → ⊥
+unfolding is_wished takes_program
+peek-wished word plain is = both_ways (is_wished word) plain (ap is_wished is)
+
+-- A line whose first word is neither of what a client wants nor `client` has none of these causes.
+pub none-between : (before : Before) (line : TextLine) (word : List ℕ) → first_word line ≡ word → is_wished word ≡ false → (word ≡ codes "client" → ⊥)
     → NoneBetween before line
 none-between before line word first plain other none =
-    none10 before line
+    none-named_item before line (λ name. no-item before.script line name (λ is. peek-wished word plain (sym first ∙ is)))
+    (none10 before line
     (none9 before line
-    (none8 before line none (λ has. both_ways (takes_program word) plain (ap takes_program (sym first) ∙ has.0.1)))
+    (none8 before line none (λ has. both_ways (is_wished word) plain (ap is_wished (sym first) ∙ has.0.1)))
     (λ has. other (sym first ∙ has.0)))
-    (λ has. both_ways (takes_program word) plain (ap takes_program (sym first) ∙ has.0.1))
+    (λ has. both_ways (is_wished word) plain (ap is_wished (sym first) ∙ has.0.1)))
 
 -- Nor has a line of a schedule.
 pub none-scheduled : (before : Before) (line : TextLine) (word : List ℕ) → before.script ≡ scheduled → first_word line ≡ word → (word ≡ codes "client" → ⊥)
     → NoneBetween before line
 none-scheduled before line word kind first other none =
-    none10 before line
+    none-named_item before line (λ name has. no-item-scheduled line name (subst (λ (s : Script). Has s line item_name name) kind has))
+    (none10 before line
     (none9 before line
     (none8 before line none (λ has. kinds-differ (sym kind ∙ has.0.0)))
     (λ has. other (sym first ∙ has.0)))
-    (λ has. kinds-differ (sym kind ∙ has.0.0))
+    (λ has. kinds-differ (sym kind ∙ has.0.0)))
 
 -- Fields are tested in order.
 pub IsLineFault-fields : (before : Before) (line : TextLine) (word : List ℕ) (args given : List (List ℕ)) (cause : LineCause) → words line ≡ word ∷ args
@@ -204,6 +224,6 @@ IsLineFault-fields before line word args given BadMode are same none between fau
     let fields = fields_of-line before.script line word args given are same in
     reported before line BadMode
     (fault.2, subst (λ (fs : List (Field × List ℕ)). Contains fs (mode, fault.2)) (sym fields) fault.3, fault.4)
-    (none11 before line (between (none7 before line none (λ no_form. fault.0 (sym (form_of-line before.script line word args given are same) ∙ no_form))))
+    (none13 before line (between (none7 before line none (λ no_form. fault.0 (sym (form_of-line before.script line word args given are same) ∙ no_form))))
     (λ bad. both_ways (list_all (has_good_number (or_default 0 before.sites)) (fields_of before.script line)) bad (ap (list_all (has_good_number (or_default 0 before.sites))) fields ∙ fault.1)))
 IsLineFault-fields before line word args given cause are same none between fault = absurd fault

@@ -9,7 +9,8 @@ use Rattle.pv_base.specs.declared.limits.TheConstants.{MAX_CLIENTS, MAX_ITEMS, M
 use Rattle.pv_base.specs.Name.{is_name}
 use Rattle.pv_base.specs.Catalog.{place_of}
 use Rattle.pv_model.specs.LineCauses.{Before, at_first, twice, too_late, HasFirstWord, HasLineCause, IsSaid, or_default, Has}
-use Rattle.pv_model.specs.LineForms.{Script, scheduled, live, most_bytes, Field, number, site, value, mode, name, first_word, forms_of, takes_program, form_of, fields_of, fields_in, has_good_number}
+use Rattle.pv_model.specs.LineForms.{Script, scheduled, live, most_bytes, Field, number, site, value, mode, name, first_word, forms_of, is_wished, form_of, fields_of, fields_in, has_good_number}
+use Rattle.pv_law_schedules.proofs.NoCauseLemmas.{no-item}
 use Rattle.pv_model.specs.Text.{TextLine, IsText, words, IsDecimal, IsSignedDecimal}
 use Rattle.pv_model.specs.Meaning.{fits_i64}
 use Rattle.pv_script.specs.LineFaults.{form_among, IsFieldFault, IsLineFault}
@@ -19,8 +20,8 @@ use Rattle.pv_script.specs.declared.keyword.Command as code
 use Rattle.pv_script.specs.declared.fault.Fault.TheVariants.{At}
 use Rattle.pv_script.specs.declared.schedule.LineCause.{LineCause}
 use Rattle.pv_script.specs.declared.schedule.LineCause.TheVariants.{SitesExpected, Twice, TooLate, WrongCount, TooManyClients, BadName, NameTaken, TooManyItems}
-use Rattle.pv_script.proofs.CauseLemmas.{NoneBefore, none3, none4, none5, none6, none7, none8, none9, none10, none11, none12, none13, none14, none-text, none-known, none-between, none-scheduled, reported, first-line, arguments-line, form_of-line, fields_of-line, IsLineFault-fields}
-use Rattle.pv_script.proofs.KeywordLemmas.{forms-command, some-command, plain-command, command-no_sites, command-no_journal, command-no_item, command-no_plan, command-no_client, forms-sites, forms-journal, forms-item, forms-plan, forms-client, plain-sites, plain-journal, plain-item, plain-plan, plain-client}
+use Rattle.pv_script.proofs.CauseLemmas.{NoneBefore, none3, none4, none5, none6, none7, none8, none9, none10, none13, none14, none15, none16, none-text, none-known, none-named_item, none-between, none-scheduled, reported, first-line, arguments-line, form_of-line, fields_of-line, IsLineFault-fields}
+use Rattle.pv_script.proofs.KeywordLemmas.{forms-command, some-command, plain-command, command-no_sites, command-no_journal, command-no_item, command-no_plan, command-no_client, forms-sites, forms-journal, forms-item, forms-plan, forms-client, plain-sites, plain-journal, plain-item, plain-plan, plain-client, unwished-sites, unwished-journal, unwished-item, unwished-plan, unwished-client}
 use Rattle.pv_script.proofs.FieldLemmas.{good-site, good-value}
 
 pub some_forms : (forms : List (List Field)) (form : List Field) (more : List (List Field)) → forms ≡ form ∷ more → forms ≢ []
@@ -94,7 +95,7 @@ pub IsLineFault-sites : (kind : Script) (line : TextLine) (args : List (List ℕ
 IsLineFault-sites kind line args cause is are fault =
     IsLineFault-fields (at_first kind) line (codes "sites") args args cause are
     (arguments-line kind line (codes "sites") args are plain-sites) (none-first kind line args is are)
-    (none-between (at_first kind) line (codes "sites") (first-line line (codes "sites") args are) plain-sites (differs (codes "sites") (codes "client") refl))
+    (none-between (at_first kind) line (codes "sites") (first-line line (codes "sites") args are) unwished-sites (differs (codes "sites") (codes "client") refl))
     (rw (forms-sites kind) fault)
 
 -- ---- a second `sites`
@@ -135,7 +136,7 @@ IsLineFault-journal before line args cause head once early fault =
     IsLineFault-fields before line (codes "journal") args args cause head.words
     (arguments-line before.script line (codes "journal") args head.words plain-journal)
     (none6 before line (none-once before line args head once) (λ late. both_ways before.begun early late.1))
-    (none-between before line (codes "journal") (first-line line (codes "journal") args head.words) plain-journal (differs (codes "journal") (codes "client") refl))
+    (none-between before line (codes "journal") (first-line line (codes "journal") args head.words) unwished-journal (differs (codes "journal") (codes "client") refl))
     (rw (forms-journal before.script) fault)
 
 -- ---- items
@@ -159,7 +160,7 @@ pub IsLineFault-item : (before : Before) (line : TextLine) (args : List (List �
 IsLineFault-item before line args cause head early fault =
     IsLineFault-fields before line (codes "item") args args cause head.words
     (arguments-line before.script line (codes "item") args head.words plain-item) (none-early before line args head early)
-    (none-between before line (codes "item") (first-line line (codes "item") args head.words) plain-item (differs (codes "item") (codes "client") refl))
+    (none-between before line (codes "item") (first-line line (codes "item") args head.words) unwished-item (differs (codes "item") (codes "client") refl))
     (rw (forms-item before.script) fault)
 
 -- The fields of a line that declares an item, where the numbers are good.
@@ -232,12 +233,12 @@ item-has_name script line word at digits are = subst (λ (fs : List (Field × Li
 
 -- ---- the name of an item, and the room for it
 
-none-numbers : (before : Before) (line word at digits : List ℕ) → IsItemLine before line word at digits → NoneBefore before line 12
+none-numbers : (before : Before) (line word at digits : List ℕ) → IsItemLine before line word at digits → NoneBefore before line 14
 none-numbers before line word at digits is =
     let sites = or_default 0 before.sites in
-    none12 before line
-    (none11 before line
-    (none-between before line (codes "item") (first-line line (codes "item") (word ∷ at ∷ digits ∷ []) is.head.words) plain-item (differs (codes "item") (codes "client") refl)
+    none14 before line
+    (none13 before line
+    (none-between before line (codes "item") (first-line line (codes "item") (word ∷ at ∷ digits ∷ []) is.head.words) unwished-item (differs (codes "item") (codes "client") refl)
     (none7 before line (none-early before line (word ∷ at ∷ digits ∷ []) is.head is.early)
     (λ none. let some = item-form before.script line word at digits is.head.words in let refuted : None ≡ Some (name ∷ site ∷ value ∷ []) = sym none ∙ some in cc)))
     (λ bad. both_ways (list_all (has_good_number sites) (fields_of before.script line)) bad
@@ -250,9 +251,9 @@ pub IsLineFault-bad_name : (before : Before) (line word at digits : List ℕ) �
 IsLineFault-bad_name before line word at digits is refuted =
     reported before line BadName (word, item-has_name before.script line word at digits is.head.words, refuted) (none-numbers before line word at digits is)
 
-none-named : (before : Before) (line word at digits : List ℕ) → IsItemLine before line word at digits → is_name word ≡ true → NoneBefore before line 13
+none-named : (before : Before) (line word at digits : List ℕ) → IsItemLine before line word at digits → is_name word ≡ true → NoneBefore before line 15
 none-named before line word at digits is named =
-    none13 before line (none-numbers before line word at digits is)
+    none15 before line (none-numbers before line word at digits is)
     (λ has. both_ways (is_name word) (ap is_name (item-name before.script line word at digits has.0 is.head.words has.1) ∙ has.2) named)
 
 pub IsLineFault-taken : (before : Before) (line word at digits : List ℕ) → IsItemLine before line word at digits → is_name word ≡ true
@@ -264,7 +265,7 @@ pub IsLineFault-full : (before : Before) (line word at digits : List ℕ) → Is
     → place_of word before.items ≡ None → MAX_ITEMS ≤ length before.items → IsLineFault before line (At TooManyItems)
 IsLineFault-full before line word at digits is named free full =
     reported before line TooManyItems (first-line line (codes "item") (word ∷ at ∷ digits ∷ []) is.head.words, full)
-    (none14 before line (none-named before line word at digits is named)
+    (none16 before line (none-named before line word at digits is named)
     (λ has. has.2 (ap (λ (w : List ℕ). place_of w before.items) (sym (item-name before.script line word at digits has.0 is.head.words has.1)) ∙ free)))
 
 -- ---- what a live script alone declares
@@ -294,7 +295,7 @@ module _ (before : Before) (line : TextLine) (args : List (List ℕ)) (kind : be
       IsLineFault-fields before line (codes "plan") args args cause head.words
       (arguments-line before.script line (codes "plan") args head.words plain-plan)
       (none6 before line (none-once_plan head once) (λ late. both_ways before.begun early late.1))
-      (none-between before line (codes "plan") (first-line line (codes "plan") args head.words) plain-plan (differs (codes "plan") (codes "client") refl))
+      (none-between before line (codes "plan") (first-line line (codes "plan") args head.words) unwished-plan (differs (codes "plan") (codes "client") refl))
       (rw (kind, forms-plan) fault)
 
   none-client : IsHead before line (codes "client") args → NoneBefore before line 6
@@ -325,7 +326,7 @@ module _ (before : Before) (line : TextLine) (args : List (List ℕ)) (kind : be
       form_of-line before.script line (codes "client") args (word ∷ []) head.words (arguments-line before.script line (codes "client") args head.words plain-client ∙ one)
       ∙ ap (λ (forms : List (List Field)). form_among forms (word ∷ [])) (ap (λ (s : Script). forms_of s (codes "client")) kind ∙ forms-client) in
       let never : None ≡ Some (site ∷ []) = sym none ∙ form in cc))
-      (λ has. both_ways (takes_program (codes "client")) plain-client (ap takes_program (sym (first-line line (codes "client") args head.words)) ∙ has.0.1)))
+      (λ has. both_ways (is_wished (codes "client")) unwished-client (ap is_wished (sym (first-line line (codes "client") args head.words)) ∙ has.0.1)))
 
   pub IsLineFault-client : (cause : LineCause) → IsHead before line (codes "client") args → length before.clients < MAX_CLIENTS
       → IsFieldFault (or_default 0 before.sites) ((site ∷ []) ∷ []) args cause → IsLineFault before line (At cause)
@@ -333,9 +334,11 @@ module _ (before : Before) (line : TextLine) (args : List (List ℕ)) (kind : be
       IsLineFault-fields before line (codes "client") args args cause head.words
       (arguments-line before.script line (codes "client") args head.words plain-client) (none-client head)
       (λ none.
-      none10 before line
+      none-named_item before line
+      (λ word. no-item before.script line word (begins line (codes "client") (codes "peek") args head.words (differs (codes "client") (codes "peek") refl)))
+      (none10 before line
       (none9 before line
-      (none8 before line none (λ has. both_ways (takes_program (codes "client")) plain-client (ap takes_program (sym (first-line line (codes "client") args head.words)) ∙ has.0.1)))
+      (none8 before line none (λ has. both_ways (is_wished (codes "client")) unwished-client (ap is_wished (sym (first-line line (codes "client") args head.words)) ∙ has.0.1)))
       (λ has. let many = has.1 in omega arith))
-      (λ has. both_ways (takes_program (codes "client")) plain-client (ap takes_program (sym (first-line line (codes "client") args head.words)) ∙ has.0.1)))
+      (λ has. both_ways (is_wished (codes "client")) unwished-client (ap is_wished (sym (first-line line (codes "client") args head.words)) ∙ has.0.1))))
       (rw (kind, forms-client) fault)

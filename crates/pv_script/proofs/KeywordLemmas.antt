@@ -8,7 +8,7 @@ use Rattle.std.proofs.lemmas.Option.{none-some}
 use Rattle.std.proofs.lemmas.Bool.{and_parts, both_ways}
 use Rattle.std.proofs.lemmas.Slice.Eq.{bytes_eq-Decides}
 use Rattle.pv_base.specs.declared.limits.TheConstants.{MAX_JOURNAL, MAX_SITES, MIN_JOURNAL}
-use Rattle.pv_model.specs.LineForms.{Script, scheduled, live, Field, number, site, value, name, program, line_forms, forms_of, takes_program}
+use Rattle.pv_model.specs.LineForms.{Script, scheduled, live, Field, number, site, value, name, program, line_forms, forms_of, takes_program, is_wished, item_name}
 use Rattle.pv_script.specs.Keywords.{keyword_beside, command_word, command_forms}
 use Rattle.pv_script.specs.declared.keyword.Command as code
 use Rattle.pv_script.specs.declared.keyword.Command.TheVariants.{Deliver, Pump, Lose, Drop, Tick, Stop, Start, Cut, Fail, Mend, Checkpoint, Sent, Report, Total}
@@ -181,6 +181,46 @@ plain-plan = refl
 pub plain-client : takes_program (codes "client") ≡ false
 unfolding takes_program
 plain-client = refl
+
+pub unwished-sites : is_wished (codes "sites") ≡ false
+unfolding is_wished takes_program
+unwished-sites = refl
+
+pub unwished-journal : is_wished (codes "journal") ≡ false
+unfolding is_wished takes_program
+unwished-journal = refl
+
+pub unwished-item : is_wished (codes "item") ≡ false
+unfolding is_wished takes_program
+unwished-item = refl
+
+pub unwished-plan : is_wished (codes "plan") ≡ false
+unfolding is_wished takes_program
+unwished-plan = refl
+
+pub unwished-client : is_wished (codes "client") ≡ false
+unfolding is_wished takes_program
+unwished-client = refl
+
+pub wished-submit : is_wished (codes "submit") ≡ true
+unfolding is_wished takes_program
+wished-submit = refl
+
+pub wished-query : is_wished (codes "query") ≡ true
+unfolding is_wished takes_program
+wished-query = refl
+
+pub wished-peek : is_wished (codes "peek") ≡ true
+unfolding is_wished takes_program
+wished-peek = refl
+
+pub plain-peek : takes_program (codes "peek") ≡ false
+unfolding takes_program
+plain-peek = refl
+
+pub forms-peek : forms_of live (codes "peek") ≡ (item_name ∷ []) ∷ []
+unfolding line_forms
+forms-peek = refl
 
 pub takes-submit : takes_program (codes "submit") ≡ true
 unfolding takes_program

@@ -8,6 +8,7 @@ pub mod SaidLemmas
 pub mod BlankLemmas
 pub mod LiveRequestLemmas
 pub mod LiveSaidLemmas
+mod PeekLemmas
 pub mod RequestLemmas
 pub mod FaultLemmas
 pub mod CountLemmas

@@ -5,21 +5,22 @@ use Rattle.std.specs.List.{list_all, Contains}
 use Rattle.std.proofs.lemmas.Bool.{both_ways}
 use Rattle.pv_base.specs.declared.limits.TheConstants.{MAX_LINE, MAX_REQUESTS}
 use Rattle.pv_model.specs.LineCauses.{Before, last_requests, Has, or_default, declared_by}
-use Rattle.pv_model.specs.LineForms.{Script, live, Field, mode, name, program, first_word, forms_of, takes_program, program_text, text_alone, arguments, form_of, fields_of, fields_in, has_good_number}
-use Rattle.pv_model.specs.LiveScript.{Client, Request}
+use Rattle.pv_model.specs.LineForms.{Script, live, Field, mode, name, item_name, program, first_word, forms_of, is_wished, program_text, text_alone, arguments, form_of, fields_of, fields_in, has_good_number}
+use Rattle.pv_model.specs.LiveScript.{Client, Request, to_ask}
 use Rattle.pv_model.specs.ProgramText.{IsProgramText}
-use Rattle.pv_model.specs.Schedule.{request_word, MayRun, DeclaresRequest, with_request}
+use Rattle.pv_model.specs.Schedule.{request_word, MayRun, DeclaresRequest, with_wish}
 use Rattle.pv_model.specs.Text.{TextLine}
+use Rattle.pv_law_schedules.proofs.NoCauseLemmas.{no-item}
 use Rattle.pv_script.specs.LineFaults.{texts, form_among, IsLineFault}
 use Rattle.pv_script.specs.LiveSaid.{IsNumberFault}
 use Rattle.pv_script.specs.Said.{IsHead, IsProgramLine}
 use Rattle.pv_script.specs.declared.fault.Fault.TheVariants.{At}
 use Rattle.pv_script.specs.declared.schedule.LineCause.{LineCause}
 use Rattle.pv_script.specs.declared.schedule.LineCause.TheVariants.{WrongCount, ClientExpected, TooManyRequests}
-use Rattle.pv_script.proofs.CauseLemmas.{NoneBefore, none7, none8, none9, none10, none11, none12, none13, none14, none15, reported, first-line, arguments-request, form_of-line, fields_of-line}
+use Rattle.pv_script.proofs.CauseLemmas.{NoneBefore, none7, none8, none9, none10, none13, none14, none15, none16, none17, none-named_item, reported, first-line, arguments-request, form_of-line, fields_of-line}
 use Rattle.pv_script.proofs.KeywordLemmas.{forms-asked_submit, forms-asked_query}
 use Rattle.pv_script.proofs.HeadLemmas.{some_forms, begins, contains-cons, no_field, is_mode, is_name_field}
-use Rattle.pv_script.proofs.RequestLemmas.{request-takes, request-no_item, request-no_client, none-request, is_program}
+use Rattle.pv_script.proofs.RequestLemmas.{request-takes, request-wished, request-no_item, request-no_peek, request-no_client, none-request, is_program}
 
 abbrev AskedForms : List (List Field)
 AskedForms = (program ∷ []) ∷ []
@@ -36,7 +37,7 @@ one_text : (text : List ℕ) (args : List (Bor (List ℕ))) → 1 ≤ length arg
 one_text text [] some = absurd (omega arith)
 one_text text (a ∷ args) some = refl
 
-no-requests : (clients : List Client) → clients ≡ [] → MAX_REQUESTS ≤ last_requests clients → ⊥
+pub no-requests : (clients : List Client) → clients ≡ [] → MAX_REQUESTS ≤ last_requests clients → ⊥
 no-requests [] none many = omega (arith, many)
 no-requests (client ∷ clients) none many = let never : ⊥ = cc in never
 
@@ -47,8 +48,11 @@ module _ (before : Before) (line : TextLine) (query : Bool) (args : List (Bor (L
   first : first_word line ≡ request_word query
   first = first-line line (request_word query) (texts args) head.words
 
-  takes : takes_program (first_word line) ≡ true
-  takes = ap takes_program first ∙ request-takes query
+  wished : is_wished (first_word line) ≡ true
+  wished = ap is_wished first ∙ request-wished query
+
+  no_item : (word : List ℕ) → Has before.script line item_name word → ⊥
+  no_item word = no-item before.script line word (begins line (request_word query) (codes "peek") (texts args) head.words (request-no_peek query))
 
   none-words : NoneBefore before line 6
   none-words = none-request before line query (texts args) (some_forms (forms_of before.script (request_word query)) (program ∷ []) [] forms) head
@@ -82,9 +86,9 @@ module _ (before : Before) (line : TextLine) (query : Bool) (args : List (Bor (L
 
     -- A request more isn't taken.
     pub IsLineFault-number : (cause : LineCause) → IsNumberFault before.clients cause → IsLineFault before line (At cause)
-    IsLineFault-number ClientExpected none = reported before line ClientExpected ((kind, takes), none) none-form
+    IsLineFault-number ClientExpected none = reported before line ClientExpected ((kind, wished), none) none-form
     IsLineFault-number TooManyRequests many =
-        reported before line TooManyRequests ((kind, takes), many)
+        reported before line TooManyRequests ((kind, wished), many)
         (none9 before line (none8 before line none-form (λ has. no-requests before.clients has.1 many))
         (λ has. begins line (request_word query) (codes "client") (texts args) head.words (request-no_client query) has.0))
     IsLineFault-number cause never = absurd never
@@ -121,16 +125,17 @@ module _ (before : Before) (line : TextLine) (query : Bool) (args : List (Bor (L
       has = has_text;
       only = only_text;
       short = short;
-      rest = none15 before line
+      rest = none17 before line
+          (none16 before line
+          (none15 before line
           (none14 before line
           (none13 before line
-          (none12 before line
-          (none11 before line
+          (none-named_item before line no_item
           (none10 before line
           (none9 before line
           (none8 before line none-form (λ has. client has.1))
           (λ has. begins line (request_word query) (codes "client") (texts args) head.words (request-no_client query) has.0))
-          (λ has. let many = has.1 in omega arith))
+          (λ has. let many = has.1 in omega arith)))
           (λ wrong. both_ways (list_all (has_good_number (or_default 0 before.sites)) (fields_of before.script line)) wrong
           (ap (list_all (has_good_number (or_default 0 before.sites))) fields)))
           (λ has. no_mode has.0 has.1))
@@ -144,7 +149,7 @@ pub DeclaresRequest-read : (before after : Before) (line : TextLine) (args : Lis
     → IsHead before line (request_word request.query) (texts args) → 1 ≤ length args → request.text ≡ program_text live line → before.clients ≢ []
     → request.number ≡ last_requests before.clients → last_requests before.clients < MAX_REQUESTS
     → IsProgramText (declared_by before) request.text request.program → MayRun request.program request.query
-    → after ≡ record before { clients = with_request before.clients request } → DeclaresRequest before line after
+    → after ≡ record before { clients = with_wish before.clients (to_ask request) } → DeclaresRequest before line after
 DeclaresRequest-read before after line args request kind head some text client number room is may same = record {
   kind = kind;
   text = head.text;

@@ -1,26 +1,28 @@
--- The clients of a live script, of which the last one asks for more, and how messages fail.
+-- The clients of a live script, of which the last one wants more, and how messages fail.
 use Rattle.std.proofs.Common.{◌≡◌, ◌≢◌, ℕ, zero, suc, ◌<◌, ◌≤◌, ◌-◌, Bool, true, false, Option, Some, None, Result, Ok, Err, OnOk, List, [], ◌∷◌, ◌++◌, All, length, map, get_or, Bor, refl, sym, ap, ◌∙◌, subst, arith}
-use Rattle.std.specs.Prelude.{slice_set, ◌==◌, ◌^◌}
+use Rattle.std.specs.Prelude.{slice_set, pos, ◌==◌, ◌^◌}
 use Rattle.std.specs.Option.{is_some, option_map}
 use mathlib.Core.List.{map-append}
 use Rattle.std.proofs.lemmas.Bool.{both_ways, and_left, and_right}
 use Rattle.std.proofs.lemmas.Grind.{common_steps}
 use Rattle.std.proofs.lemmas.List.{length-map}
 use Rattle.std.proofs.lemmas.List.Elements.{All-nil, All-push, All-set, All-get_or}
-use Rattle.pv_base.specs.Catalog.{Declared}
-use Rattle.pv_model.specs.Check.{IsPlan}
+use Rattle.std.specs.Str.{bytes_eq}
+use Rattle.std.proofs.lemmas.List.Quantifiers.{position-Some}
+use Rattle.std.proofs.lemmas.Option.{none-some, slice_get-get_or}
+use Rattle.pv_base.specs.Catalog.{Declared, Item, place_of}
 use Rattle.pv_model.specs.LineForms.{live, Field, site, number, has_good_number}
-use Rattle.pv_model.specs.LineCauses.{last_requests}
+use Rattle.pv_model.specs.LineCauses.{home_of, last_requests, last_site}
 use Rattle.pv_model.specs.LiveScript as model
-use Rattle.pv_model.specs.Schedule.{with_one_more, with_request}
+use Rattle.pv_model.specs.Schedule.{with_one_more, with_wish}
 use Rattle.pv_script.specs.LineFaults.{texts, form_among, IsFieldFault}
 use Rattle.pv_script.specs.LiveSaid.{fault_plan_in, before_of_live, IsSound}
-use Rattle.pv_script.specs.LiveView.{client_of, request_of, HasPlans}
+use Rattle.pv_script.specs.LiveView.{client_of, wish_of, HasPlans, IsPlanned}
 use Rattle.pv_script.specs.Said.{nothing_beside, before_with, IsLimited}
 use Rattle.pv_script.specs.declared.live_said.FaultPlan.{FaultPlan}
 use Rattle.pv_script.specs.declared.live_said.LiveSaid.{LiveSaid}
 use Rattle.pv_script.specs.declared.live.Client.{Client}
-use Rattle.pv_script.specs.declared.live.Request.{Request}
+use Rattle.pv_script.specs.declared.live.Wish.{Wish}
 use Rattle.pv_script.specs.declared.schedule.LineCause.TheVariants.{WrongCount, BadNumber}
 
 pub no-clients : (clients : List Client) → length clients < 1 → map client_of clients ≡ []
@@ -37,60 +39,79 @@ last_requests-map clients d some = go clients (length clients - 1) (omega arith)
   where
     go : (cs : List Client) (k : ℕ) → length cs ≡ suc k → last_requests (map client_of cs) ≡ length (get_or cs k d).requests.items
     go [] k e = absurd (omega (arith, e))
-    go (c ∷ []) zero e = length-map c.requests.items request_of
+    go (c ∷ []) zero e = length-map c.requests.items wish_of
     go (c ∷ []) (suc k) e = absurd (omega (arith, e))
     go (c ∷ n ∷ cs) zero e = absurd (omega (arith, e))
     go (c ∷ n ∷ cs) (suc k) e = go (n ∷ cs) k (omega (arith, e))
 
-pub ruleset last_clients = (no-clients, some-clients, last_requests-map)
+-- the site of the last client
+pub last_site-map : (clients : List Client) (d : Client) → 1 ≤ length clients
+    → last_site (map client_of clients) ≡ Some (get_or clients (length clients - 1) d).site.0
+last_site-map clients d some = go clients (length clients - 1) (omega arith)
+  where
+    go : (cs : List Client) (k : ℕ) → length cs ≡ suc k → last_site (map client_of cs) ≡ Some (get_or cs k d).site.0
+    go [] k e = absurd (omega (arith, e))
+    go (c ∷ []) zero e = refl
+    go (c ∷ []) (suc k) e = absurd (omega (arith, e))
+    go (c ∷ n ∷ cs) zero e = absurd (omega (arith, e))
+    go (c ∷ n ∷ cs) (suc k) e = go (n ∷ cs) k (omega (arith, e))
 
--- A client has one request more.
-pub one-more : (old new : Client) (request : Request) → new.site ≡ old.site → new.requests.items ≡ old.requests.items ++ request ∷ []
-    → client_of new ≡ with_one_more (client_of old) (request_of request)
-one-more old new request place requests =
-    let more : map request_of new.requests.items ≡ map request_of old.requests.items ++ request_of request ∷ [] =
-    ap (map request_of) requests ∙ map-append request_of old.requests.items (request ∷ []) in
+pub ruleset last_clients = (no-clients, some-clients, last_requests-map, last_site-map)
+
+-- Where there is no client, an item that is there is at the site of none.
+pub home-none : (items : List Item) (name : List ℕ) (place : ℕ) (clients : List Client) → place_of name items ≡ Some place → length clients < 1
+    → home_of items place ≡ last_site (map client_of clients) → ⊥
+home-none items name place clients found few same =
+    let sites = map (λ (declared : Item). declared.site) items in
+    let there = (position-Some (λ (item : Item). bytes_eq name item.name) items place (record { name = []; site = 0; value = pos 0 }) found).0 in
+    let home : home_of items place ≡ Some (get_or sites place 0) =
+    slice_get-get_or sites place 0 (subst (λ (n : ℕ). place < n) (sym (length-map items (λ (declared : Item). declared.site))) there) in
+    none-some (get_or sites place 0) (sym (same ∙ ap last_site (no-clients clients few)) ∙ home)
+
+-- A client wants one thing more.
+pub one-more : (old new : Client) (wish : Wish) → new.site ≡ old.site → new.requests.items ≡ old.requests.items ++ wish ∷ []
+    → client_of new ≡ with_one_more (client_of old) (wish_of wish)
+one-more old new wish place requests =
+    let more : map wish_of new.requests.items ≡ map wish_of old.requests.items ++ wish_of wish ∷ [] =
+    ap (map wish_of) requests ∙ map-append wish_of old.requests.items (wish ∷ []) in
     λ i. record { site = (place i).0; requests = more i }
 
 -- A write at the last place changes the last client.
-pub with_request-set : (clients : List Client) (d new : Client) (request : model.Request) → 1 ≤ length clients
-    → client_of new ≡ with_one_more (client_of (get_or clients (length clients - 1) d)) request
-    → map client_of (slice_set clients (length clients - 1) new) ≡ with_request (map client_of clients) request
-with_request-set clients d new request some same = go clients (length clients - 1) (omega arith) same
+pub with_wish-set : (clients : List Client) (d new : Client) (wish : model.Wish) → 1 ≤ length clients
+    → client_of new ≡ with_one_more (client_of (get_or clients (length clients - 1) d)) wish
+    → map client_of (slice_set clients (length clients - 1) new) ≡ with_wish (map client_of clients) wish
+with_wish-set clients d new wish some same = go clients (length clients - 1) (omega arith) same
   where
-    go : (cs : List Client) (k : ℕ) → length cs ≡ suc k → client_of new ≡ with_one_more (client_of (get_or cs k d)) request
-        → map client_of (slice_set cs k new) ≡ with_request (map client_of cs) request
+    go : (cs : List Client) (k : ℕ) → length cs ≡ suc k → client_of new ≡ with_one_more (client_of (get_or cs k d)) wish
+        → map client_of (slice_set cs k new) ≡ with_wish (map client_of cs) wish
     go [] k e is = absurd (omega (arith, e))
     go (c ∷ []) zero e is = ap (λ (x : model.Client). x ∷ []) is
     go (c ∷ []) (suc k) e is = absurd (omega (arith, e))
     go (c ∷ n ∷ cs) zero e is = absurd (omega (arith, e))
     go (c ∷ n ∷ cs) (suc k) e is = ap (λ (more : List model.Client). client_of c ∷ more) (go (n ∷ cs) k (omega (arith, e)) is)
 
--- what is written at the last place, of so many, by a push onto the requests of the client there
-pub push-clients : (clients : List Client) (n : ℕ) (old new : Client) (request : Request) → n ≡ length clients → 1 ≤ length clients → old ≡ get_or clients (n - 1) old
-    → new.site ≡ old.site → new.requests.items ≡ old.requests.items ++ request ∷ []
-    → map client_of (slice_set clients (n - 1) new) ≡ with_request (map client_of clients) (request_of request)
-push-clients clients n old new request count some at place grown =
+-- what is written at the last place, of so many, by a push onto what the client there wants
+pub push-clients : (clients : List Client) (n : ℕ) (old new : Client) (wish : Wish) → n ≡ length clients → 1 ≤ length clients → old ≡ get_or clients (n - 1) old
+    → new.site ≡ old.site → new.requests.items ≡ old.requests.items ++ wish ∷ []
+    → map client_of (slice_set clients (n - 1) new) ≡ with_wish (map client_of clients) (wish_of wish)
+push-clients clients n old new wish count some at place grown =
     let here : old ≡ get_or clients (length clients - 1) old = at ∙ ap (λ (m : ℕ). get_or clients (m - 1) old) count in
     ap (λ (m : ℕ). map client_of (slice_set clients (m - 1) new)) count
-    ∙ with_request-set clients old new (request_of request) some
-    (one-more old new request place grown ∙ ap (λ (c : Client). with_one_more (client_of c) (request_of request)) here)
+    ∙ with_wish-set clients old new (wish_of wish) some
+    (one-more old new wish place grown ∙ ap (λ (c : Client). with_one_more (client_of c) (wish_of wish)) here)
 
 -- ---- plans
 
-abbrev IsPlanned : Declared → Request → Type 0
-IsPlanned catalog request = IsPlan request.program catalog.items request.plan.parts.items
-
-pub push-plans : (catalog : Declared) (clients : List Client) (n : ℕ) (old new : Client) (request : Request) → n ≡ length clients → 1 ≤ length clients
-    → old ≡ get_or clients (n - 1) old → new.requests.items ≡ old.requests.items ++ request ∷ [] → All (HasPlans catalog) clients
-    → IsPlan request.program catalog.items request.plan.parts.items → All (HasPlans catalog) (slice_set clients (n - 1) new)
-push-plans catalog clients n old new request count some at grown each plan =
+pub push-plans : (catalog : Declared) (clients : List Client) (n : ℕ) (old new : Client) (wish : Wish) → n ≡ length clients → 1 ≤ length clients
+    → old ≡ get_or clients (n - 1) old → new.requests.items ≡ old.requests.items ++ wish ∷ [] → All (HasPlans catalog) clients
+    → IsPlanned catalog wish → All (HasPlans catalog) (slice_set clients (n - 1) new)
+push-plans catalog clients n old new wish count some at grown each plan =
     let before : All (IsPlanned catalog) old.requests.items =
     subst (HasPlans catalog) (sym at) (All-get_or (HasPlans catalog) clients (n - 1) old (omega (arith, count, some)) each) in
     All-set (HasPlans catalog) clients (n - 1) new
-    (subst (All (IsPlanned catalog)) (sym grown) (All-push (IsPlanned catalog) old.requests.items request before plan)) each
+    (subst (All (IsPlanned catalog)) (sym grown) (All-push (IsPlanned catalog) old.requests.items wish before plan)) each
 
--- a client more, which asks for nothing
+-- a client more, which wants nothing
 pub client-plans : (catalog : Declared) (old new : List Client) (c : Client) → new ≡ old ++ c ∷ [] → c.requests.items ≡ [] → All (HasPlans catalog) old
     → All (HasPlans catalog) new
 client-plans catalog old new c grown empty each =

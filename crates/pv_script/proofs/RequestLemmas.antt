@@ -12,7 +12,7 @@ use Rattle.pv_parse.specs.declared.error.ParseError.TheVariants as parse
 use Rattle.pv_parse.specs.Refusals.{refusal_of}
 use Rattle.pv_model.specs.LineCauses.{Before, declared_by, HasProgram, or_default, Has}
 use Rattle.pv_model.specs.Check.{names_item, AreItems, has_assignment, has_return}
-use Rattle.pv_model.specs.LineForms.{Script, scheduled, Field, site, mode, name, program, forms_of, arguments, takes_program, site_and_text, program_text, form_of, fields_of, fields_in, has_good_number}
+use Rattle.pv_model.specs.LineForms.{Script, scheduled, Field, site, mode, name, program, forms_of, arguments, takes_program, is_wished, site_and_text, program_text, form_of, fields_of, fields_in, has_good_number}
 use Rattle.pv_model.specs.ProgramText.{IsProgramText, at_fault, IsRefused}
 use Rattle.pv_model.specs.Schedule.{request_word, MayRun, IsRequest}
 use Rattle.pv_model.specs.Syntax.{Program}
@@ -26,8 +26,8 @@ use Rattle.pv_script.specs.Said.{IsHead, IsProgramLine}
 use Rattle.pv_script.specs.declared.fault.Fault.TheVariants.{At}
 use Rattle.pv_script.specs.declared.schedule.LineCause.{LineCause}
 use Rattle.pv_script.specs.declared.schedule.LineCause.TheVariants.{WrongCount, BadNumber, ProgramColumn, UnknownName, TooDeep, NamesNoItem, TooManyNames, QueryAssigns, NoReturn}
-use Rattle.pv_script.proofs.CauseLemmas.{NoneBefore, none5, none6, none7, none11, none12, none13, none14, none15, none16, none17, none18, none19, none-known, none-scheduled, reported, first-line, arguments-request, form_of-line, fields_of-line, IsLineFault-fields}
-use Rattle.pv_script.proofs.KeywordLemmas.{forms-submit, forms-query, takes-submit, takes-query}
+use Rattle.pv_script.proofs.CauseLemmas.{NoneBefore, none5, none6, none7, none13, none14, none15, none16, none17, none18, none19, none20, none21, none-known, none-scheduled, reported, first-line, arguments-request, form_of-line, fields_of-line, IsLineFault-fields}
+use Rattle.pv_script.proofs.KeywordLemmas.{forms-submit, forms-query, takes-submit, takes-query, wished-submit, wished-query}
 use Rattle.pv_script.proofs.HeadLemmas.{some_forms, differs, begins, no-twice, no-late, contains-cons, no_field, is_mode, is_name_field}
 use Rattle.pv_script.proofs.FieldLemmas.{good-site}
 
@@ -121,6 +121,14 @@ request-no_item false = differs (codes "submit") (codes "item") refl
 pub request-no_plan : (query : Bool) → request_word query ≡ codes "plan" → ⊥
 request-no_plan true = differs (codes "query") (codes "plan") refl
 request-no_plan false = differs (codes "submit") (codes "plan") refl
+
+pub request-wished : (query : Bool) → is_wished (request_word query) ≡ true
+request-wished true = wished-query
+request-wished false = wished-submit
+
+pub request-no_peek : (query : Bool) → request_word query ≡ codes "peek" → ⊥
+request-no_peek true = differs (codes "query") (codes "peek") refl
+request-no_peek false = differs (codes "submit") (codes "peek") refl
 
 pub request-no_client : (query : Bool) → request_word query ≡ codes "client" → ⊥
 request-no_client true = differs (codes "query") (codes "client") refl
@@ -247,14 +255,14 @@ module _ (before : Before) (line : TextLine) (query : Bool) (args : List (List �
   unfolding is_name_field
   no_name word has = no_kind is_name_field name word refl refl has
 
-  none-fields : NoneBefore before line 15
+  none-fields : NoneBefore before line 17
   none-fields =
       let sites = or_default 0 before.sites in
-      none15 before line
+      none17 before line
+      (none16 before line
+      (none15 before line
       (none14 before line
       (none13 before line
-      (none12 before line
-      (none11 before line
       (none-scheduled before line (request_word query) is.kind (first-line line (request_word query) args is.head.words) (request-no_client query)
       (none7 before line (none-request before line query args (known-request before query is.kind) is.head)
       (λ none. let some = form in let never : None ≡ Some (site ∷ program ∷ []) = sym none ∙ some in cc)))
@@ -294,22 +302,22 @@ module _ (before : Before) (line : TextLine) (query : Bool) (text : List ℕ) (i
         one_program_text (declared_by before) text p q program_is
         (subst (λ (t : List ℕ). IsProgramText (declared_by before) t q) (sym (is.only has.0 has.1)) has.2)
 
-    none-program : NoneBefore before line 16
+    none-program : NoneBefore before line 18
     none-program =
-        none16 before line is.rest
+        none18 before line is.rest
         (λ kind column has. no_refusal (declared_by before) text p (at_fault kind column) program_is
         (subst (λ (t : List ℕ). IsRefused (declared_by before) t (at_fault kind column)) (sym (is.only has.0 has.1)) has.2))
 
-    none-some_name : (items : List ℕ) → AreItems p items → 0 < length items → NoneBefore before line 17
+    none-some_name : (items : List ℕ) → AreItems p items → 0 < length items → NoneBefore before line 19
     none-some_name items are some =
-        none17 before line none-program
+        none19 before line none-program
         (λ has.
         let same = only_program has.0 has.1 in
         both_ways (names_item p (get_or items 0 0)) (ap (λ (q : Program). names_item q (get_or items 0 0)) same ∙ has.2 (get_or items 0 0)) (are.each 0 0 some))
 
-    none-few_names : (items : List ℕ) → AreItems p items → 0 < length items → length items ≤ MAX_PROGRAM_ITEMS → NoneBefore before line 18
+    none-few_names : (items : List ℕ) → AreItems p items → 0 < length items → length items ≤ MAX_PROGRAM_ITEMS → NoneBefore before line 20
     none-few_names items are some small =
-        none18 before line (none-some_name items are some)
+        none20 before line (none-some_name items are some)
         (λ m has.
         let same = only_program has.0 has.1 in
         let all : items ≡ has.2 = one_items p items has.2 are (subst (λ (q : Program). AreItems q has.2) (sym same) has.3) in
@@ -329,7 +337,7 @@ module _ (before : Before) (line : TextLine) (query : Bool) (text : List ℕ) (i
     fault-why items are check.NoReturn (silent some small asks pure quiet) =
         reported before line NoReturn
         (p, has_program, is.first ∙ ap request_word asks, quiet)
-        (none19 before line (none-few_names items are some small)
+        (none21 before line (none-few_names items are some small)
         (λ has. both_ways (has_assignment p) pure (ap has_assignment (only_program has.0 has.1) ∙ has.3)))
     fault-why items are check.NoMemory never = elim never [ ]
 

@@ -62,7 +62,9 @@ early before after line sites kind said =
     ⊎_elim (λ (is : DeclaresSites before line after). absurd (let first = is.first in let never : None ≡ Some sites = sym first ∙ said in cc))
     (⊎_elim (λ (is : DeclaresJournal before line after). is.early)
     (⊎_elim (λ (is : DeclaresItem before line after). is.early)
-    (⊎_elim (λ is. absurd (kinds-differ (sym kind ∙ is.kind))) (⊎_elim (λ is. absurd (kinds-differ (sym kind ∙ is.kind))) (λ is. absurd (kinds-differ (sym kind ∙ is.kind)))))))
+    (⊎_elim (λ is. absurd (kinds-differ (sym kind ∙ is.kind)))
+    (⊎_elim (λ is. absurd (kinds-differ (sym kind ∙ is.kind)))
+    (⊎_elim (λ is. absurd (kinds-differ (sym kind ∙ is.kind))) (λ is. absurd (kinds-differ (sym kind ∙ is.kind))))))))
 
 pub plans-takes : (before after : Before) (line : TextLine) (catalog now : Declared) (old new : List Event) (sites : ℕ) → before.script ≡ scheduled → before.sites ≡ Some sites
     → before.items ≡ catalog.items → after.items ≡ now.items → (before.begun ≡ false → old ≡ []) → All (HasPlan catalog) old → TakesLine before line after now old new

@@ -1,7 +1,7 @@
 -- How a refused line and its cause are printed.
 use Rattle.std.specs.Prelude.{ℕ, List, ◌++◌, codes}
 use Rattle.std.specs.Fmt.{decimal}
-use Rattle.pv_model.specs.LineCauses.{LineCause, too_long, not_text, sites_expected, unknown_word, twice, too_late, wrong_count, client_expected, too_many_clients, too_many_requests, bad_number, bad_mode, bad_name, name_taken, too_many_items, at_program, names_no_item, too_many_names, query_assigns, no_return, not_a_trace}
+use Rattle.pv_model.specs.LineCauses.{LineCause, too_long, not_text, sites_expected, unknown_word, twice, too_late, wrong_count, client_expected, too_many_clients, too_many_requests, no_such_item, other_site, bad_number, bad_mode, bad_name, name_taken, too_many_items, at_program, names_no_item, too_many_names, query_assigns, no_return, not_a_trace}
 use Rattle.pv_model.specs.ProgramText.{malformed, unknown_name, too_deep}
 use Rattle.pv_script.specs.ScriptErrors.{line_cause_of}
 use Rattle.pv_script.specs.declared.schedule.ScriptError.{ScriptError}
@@ -19,6 +19,8 @@ cause_text wrong_count = codes "wrong count"
 cause_text client_expected = codes "client expected"
 cause_text too_many_clients = codes "too many clients"
 cause_text too_many_requests = codes "too many requests"
+cause_text no_such_item = codes "no such item"
+cause_text other_site = codes "other site"
 cause_text bad_number = codes "bad number"
 cause_text bad_mode = codes "bad mode"
 cause_text bad_name = codes "bad name"

@@ -61,6 +61,7 @@ spelled_live live_word.Plan = codes "plan"
 spelled_live live_word.Client = codes "client"
 spelled_live live_word.Submit = codes "submit"
 spelled_live live_word.Query = codes "query"
+spelled_live live_word.Peek = codes "peek"
 
 -- the keyword beside the first word of a table that bytes are
 unfoldable pub keyword_beside : {K : Type 0} → List ℕ → List (Bor (List ℕ) × K) → Option K

@@ -5,7 +5,7 @@ use Rattle.pv_model.specs.LineForms.{Script, scheduled, live}
 use Rattle.pv_model.specs.Schedule.{IsMalformed}
 use Rattle.pv_model.specs.ProgramText.{malformed, unknown_name, too_deep}
 use Rattle.pv_script.specs.declared.schedule.LineCause.{LineCause}
-use Rattle.pv_script.specs.declared.schedule.LineCause.TheVariants.{TooLong, NotText, SitesExpected, UnknownWord, Twice, TooLate, WrongCount, ClientExpected, TooManyClients, TooManyRequests, BadNumber, BadMode, BadName, NameTaken, TooManyItems, ProgramColumn, UnknownName, TooDeep, NamesNoItem, TooManyNames, QueryAssigns, NoReturn, NotATrace}
+use Rattle.pv_script.specs.declared.schedule.LineCause.TheVariants.{TooLong, NotText, SitesExpected, UnknownWord, Twice, TooLate, WrongCount, ClientExpected, TooManyClients, TooManyRequests, NoSuchItem, OtherSite, BadNumber, BadMode, BadName, NameTaken, TooManyItems, ProgramColumn, UnknownName, TooDeep, NamesNoItem, TooManyNames, QueryAssigns, NoReturn, NotATrace}
 use Rattle.pv_script.specs.declared.schedule.ScriptError.{ScriptError}
 use Rattle.pv_script.specs.declared.schedule.ScriptError.TheVariants.{Malformed, NoMemory}
 
@@ -21,6 +21,8 @@ line_cause_of WrongCount = model.wrong_count
 line_cause_of ClientExpected = model.client_expected
 line_cause_of TooManyClients = model.too_many_clients
 line_cause_of TooManyRequests = model.too_many_requests
+line_cause_of NoSuchItem = model.no_such_item
+line_cause_of OtherSite = model.other_site
 line_cause_of BadNumber = model.bad_number
 line_cause_of BadMode = model.bad_mode
 line_cause_of BadName = model.bad_name

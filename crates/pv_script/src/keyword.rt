@@ -72,6 +72,8 @@ pub enum LiveKeyword {
     Submit,
     /// `query`
     Query,
+    /// `peek`
+    Peek,
 }
 
 // Each word of schedules with what it is.
@@ -98,7 +100,7 @@ const KEYWORDS: [(&[u8], Keyword); 19] = [
 ];
 
 // Each word of live scripts with what it is.
-const LIVE_KEYWORDS: [(&[u8], LiveKeyword); 7] = [
+const LIVE_KEYWORDS: [(&[u8], LiveKeyword); 8] = [
     (b"sites", LiveKeyword::Sites),
     (b"journal", LiveKeyword::Journal),
     (b"item", LiveKeyword::Item),
@@ -106,6 +108,7 @@ const LIVE_KEYWORDS: [(&[u8], LiveKeyword); 7] = [
     (b"client", LiveKeyword::Client),
     (b"submit", LiveKeyword::Submit),
     (b"query", LiveKeyword::Query),
+    (b"peek", LiveKeyword::Peek),
 ];
 
 /// The keyword of schedules that a word is.

@@ -30,7 +30,7 @@ pub use line::{Line, MessageKind};
 pub use lines::{
     MAX_SCHEDULE, SignificantLine, first_line, is_significant, line_after, without_return,
 };
-pub use live::{Client, LiveScript, Request};
+pub use live::{Client, LiveScript, Request, Wish};
 pub use read::{read_live, read_schedule};
 pub use reader::Reader;
 pub use schedule::{Event, LineCause, Schedule, ScriptError};

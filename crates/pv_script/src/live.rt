@@ -1,12 +1,12 @@
 // What a live script says.
 use pv_ast::Program;
-use pv_base::{Catalog, SiteId};
+use pv_base::{Catalog, ItemId, SiteId};
 use pv_check::Plan;
 
 /// What a client asks its site for: a program is to run there.
 #[derive(Debug, Drop)]
 pub struct Request {
-    /// The place among the requests of the client, from 0.
+    /// The place among all that the client wants, from 0.
     pub number: u32,
     /// Whether the program only answers: it assigns nothing and has a `return`.
     pub query: bool,
@@ -18,16 +18,30 @@ pub struct Request {
     pub plan: Plan,
 }
 
-/// A client, which asks one site.
+/// What a client wants of its site.
+#[derive(Debug, Drop)]
+pub enum Wish {
+    /// A program is to run.
+    Do(Request),
+    /// An item of the site is looked at.
+    Peek {
+        /// The place among all that the client wants, from 0.
+        number: u32,
+        /// The item.
+        item: ItemId,
+    },
+}
+
+/// A client of one site.
 #[derive(Debug, Drop)]
 pub struct Client {
     /// The site, which coordinates the client's transactions.
     pub site: SiteId,
-    /// What it asks for, in order; at most [`MAX_REQUESTS`](pv_base::MAX_REQUESTS).
-    pub requests: Vec<Request>,
+    /// What it wants, in order; at most [`MAX_REQUESTS`](pv_base::MAX_REQUESTS) things.
+    pub requests: Vec<Wish>,
 }
 
-/// What is declared, how messages between sites fail, and what clients ask for, in the order of the lines.
+/// What is declared, how messages between sites fail, and what clients want, in the order of the lines.
 #[derive(Debug, Drop)]
 pub struct LiveScript {
     /// The sites, the limit of their journals, and the items.

@@ -1,29 +1,28 @@
 // What the lines of a live script said so far, and what one more line says.
-ghost use Rattle.std.specs.Prelude.{◌≡◌, ◌≢◌, ◌<◌, ℕ, List, [], ◌∷◌, All, map, IfOk, IfErr, OnOk, codes};
-ghost use Rattle.pv_base.specs.Catalog.{Declared};
-ghost use Rattle.pv_model.specs.Check.{IsPlan};
-ghost use Rattle.pv_model.specs.LineCauses.{last_requests};
+ghost use Rattle.std.specs.Prelude.{◌≡◌, ◌≢◌, ◌<◌, ℕ, Some, List, [], ◌∷◌, All, map, IfOk, IfErr, OnOk, codes};
+ghost use Rattle.pv_base.specs.Catalog.{Declared, place_of};
+ghost use Rattle.pv_model.specs.LineCauses.{home_of, last_requests, last_site};
 ghost use Rattle.pv_model.specs.LineForms as form;
 ghost use Rattle.pv_model.specs.LineForms.{forms_of, leading_word};
-ghost use Rattle.pv_model.specs.Schedule.{Declares, DeclaresPlan, DeclaresClient, DeclaresRequest, live_script_by, request_word, with_request};
+ghost use Rattle.pv_model.specs.Schedule.{Declares, DeclaresPlan, DeclaresClient, DeclaresRequest, DeclaresPeek, live_script_by, request_word, with_wish};
 ghost use Rattle.pv_base.specs.declared.limits.TheConstants.{MAX_REQUESTS};
 ghost use Rattle.pv_script.specs.declared.fault.Fault.TheVariants.{At, NoMemory};
 ghost use Rattle.pv_script.specs.declared.schedule.LineCause.TheVariants.{UnknownWord};
 ghost use Rattle.pv_script.specs.LineFaults.{texts, IsLineFault};
 ghost use Rattle.pv_script.specs.Keywords.{spelled_live};
-ghost use Rattle.pv_script.specs.LiveView.{client_of, request_of, live_script_of, HasPlans};
-ghost use Rattle.pv_script.specs.LiveSaid.{before_of_live, IsSound, IsNumberFault};
+ghost use Rattle.pv_script.specs.LiveView.{client_of, wish_of, live_script_of, HasPlans, IsPlanned};
+ghost use Rattle.pv_script.specs.LiveSaid.{before_of_live, IsSound, IsItemFault, IsNumberFault};
 ghost use Rattle.pv_script.specs.Said.{IsHead};
 
 use crate::fault::Fault;
 use crate::fields::{number_in, site_in};
 use crate::keyword::{LiveKeyword, live_keyword_of};
-use crate::live::{Client, LiveScript, Request};
+use crate::live::{Client, LiveScript, Request, Wish};
 use crate::program::live_program_text;
 use crate::said::{Said, words_in};
 use crate::schedule::LineCause;
 use crate::script::Script;
-use pv_base::{MAX_CLIENTS, MAX_REQUESTS};
+use pv_base::{Catalog, ItemId, MAX_CLIENTS, MAX_REQUESTS};
 use std::alloc::Global;
 
 /// Which messages between sites fail.
@@ -64,6 +63,7 @@ impl LiveSaid {
             LiveKeyword::Client => self.client(alloc, args)?,
             LiveKeyword::Submit => self.request(alloc, line, args, false)?,
             LiveKeyword::Query => self.request(alloc, line, args, true)?,
+            LiveKeyword::Peek => self.peek(args)?,
         }
         Ok(())
     }
@@ -170,11 +170,28 @@ impl LiveSaid {
             program: found.program,
             plan: found.plan,
         };
-        push_request(&mut self.clients, request)
+        push_wish(&mut self.clients, Wish::Do(request))
+    }
+
+    // Adds a look at the item that the word after `peek` names to what the last client wants.
+    fn peek(&mut self, args: &[&[u8]]) -> Result<(), Fault>
+        requires { IsSound self.old }
+        ensures declares { (line : List ℕ) → IsHead (before_of_live self.old) line (codes "peek") (texts args.now) →
+            OnOk result (DeclaresPeek (before_of_live self.old) line (before_of_live self.new)) }
+        ensures sound { OnOk result (IsSound self.new) }
+        ensures fault { (line : List ℕ) → IsHead (before_of_live self.old) line (codes "peek") (texts args.now) →
+            IfErr result (IsLineFault (before_of_live self.old) line) }
+    {
+        let [name] = args else {
+            return Err(Fault::At(LineCause::WrongCount));
+        };
+        let number = next_number(&self.clients)?;
+        let item = item_here(&self.said.catalog, name, &self.clients)?;
+        push_wish(&mut self.clients, Wish::Peek { number, item })
     }
 }
 
-// The number of one request more of the last client, if there is one and it may have one more.
+// The number of one thing more that the last client wants, if there is one and it may want one more.
 #[tactic(auto, using(crate::proofs::LiveSaidLemmas::last_clients))]
 fn next_number(clients: &[Client]) -> Result<u32, LineCause>
     ensures some { IfOk result (λ _. map client_of clients.now ≢ []) }
@@ -191,15 +208,34 @@ fn next_number(clients: &[Client]) -> Result<u32, LineCause>
     Ok(client.requests.len() as u32)
 }
 
-// Adds a request to those of the last client.
-fn push_request(clients: &mut Vec<Client>, request: Request) -> Result<(), Fault>
-    ensures clients { OnOk result (map client_of clients.new.items ≡ with_request (map client_of clients.old.items) (request_of request)) }
-    ensures plans { (catalog : Declared) → All (HasPlans catalog) clients.old.items → IsPlan request.program catalog.items request.plan.parts.items →
+// The item of this name, if there is one and it is at the site of the last client.
+#[tactic(auto, using(crate::proofs::LiveSaidLemmas::last_clients))]
+fn item_here(catalog: &Catalog, name: &[u8], clients: &[Client]) -> Result<ItemId, LineCause>
+    ensures named { IfOk result (λ item. place_of name.now catalog.now.items ≡ Some item.0) }
+    ensures here { IfOk result (λ item. home_of catalog.now.items item.0 ≡ last_site (map client_of clients.now)) }
+    ensures fault { IfErr result (IsItemFault catalog.now.items name.now (map client_of clients.now)) }
+{
+    let Some(item) = catalog.find(name) else {
+        return Err(LineCause::NoSuchItem);
+    };
+    let [.., client] = clients else {
+        return Err(LineCause::OtherSite);
+    };
+    if catalog.site_of(item) != client.site {
+        return Err(LineCause::OtherSite);
+    }
+    Ok(item)
+}
+
+// Adds one thing to what the last client wants.
+fn push_wish(clients: &mut Vec<Client>, wish: Wish) -> Result<(), Fault>
+    ensures clients { OnOk result (map client_of clients.new.items ≡ with_wish (map client_of clients.old.items) (wish_of wish)) }
+    ensures plans { (catalog : Declared) → All (HasPlans catalog) clients.old.items → IsPlanned catalog wish →
         OnOk result (All (HasPlans catalog) clients.new.items) }
     ensures fault { IfErr result (λ fault. fault ≡ NoMemory) }
 {
     if let Some(client) = clients.last_mut() {
-        client.requests.push(request)?;
+        client.requests.push(wish)?;
     }
     Ok(())
 }

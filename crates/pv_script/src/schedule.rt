@@ -90,12 +90,16 @@ pub enum LineCause {
     TooLate,
     /// There are too few or too many words. A program counts as one.
     WrongCount,
-    /// A request before the first client.
+    /// A request or a look before the first client.
     ClientExpected,
     /// There are [`MAX_CLIENTS`](pv_base::MAX_CLIENTS) clients.
     TooManyClients,
-    /// The client has [`MAX_REQUESTS`](pv_base::MAX_REQUESTS) requests.
+    /// The client wants [`MAX_REQUESTS`](pv_base::MAX_REQUESTS) things.
     TooManyRequests,
+    /// No item has the name.
+    NoSuchItem,
+    /// The item is at another site than the client's.
+    OtherSite,
     /// A number isn't one, or isn't in its range.
     BadNumber,
     /// A mode isn't `lost`, `kept` or `torn`.
@@ -155,6 +159,8 @@ impl fmt::Display for LineCause {
             LineCause::ClientExpected => f.write_str("client expected"),
             LineCause::TooManyClients => f.write_str("too many clients"),
             LineCause::TooManyRequests => f.write_str("too many requests"),
+            LineCause::NoSuchItem => f.write_str("no such item"),
+            LineCause::OtherSite => f.write_str("other site"),
             LineCause::BadNumber => f.write_str("bad number"),
             LineCause::BadMode => f.write_str("bad mode"),
             LineCause::BadName => f.write_str("bad name"),

@@ -1,8 +1,8 @@
 // What no clause says of live scripts: that they are read, what a text says to one who reads it, and each cause once, at its edge. What is wanted was worked out
 // from the rules, apart from the program.
 use crate::tests::assert_printed;
-use pv_base::SiteId;
-use pv_script::{LineCause, LiveScript, MAX_SCHEDULE, ScriptError, read_live};
+use pv_base::{ItemId, SiteId};
+use pv_script::{LineCause, LiveScript, MAX_SCHEDULE, ScriptError, Wish, read_live};
 use std::process::Abort;
 use std::test::Fail;
 
@@ -33,6 +33,21 @@ const REFUSED: &[(&str, &str)] = &[
     ("sites 1\nsubmit", "line 2: wrong count"),
     ("sites 1\nclient 0\nquery \t", "line 3: wrong count"),
     ("sites 1\nquery (", "line 2: client expected"),
+    ("sites 1\nitem a 0 0\npeek a", "line 3: client expected"),
+    ("sites 1\npeek", "line 2: wrong count"),
+    (
+        "sites 1\nitem a 0 0\nclient 0\npeek a a",
+        "line 4: wrong count",
+    ),
+    (
+        "sites 1\nitem a 0 0\nclient 0\npeek b",
+        "line 4: no such item",
+    ),
+    ("sites 1\nclient 0\npeek 1x", "line 3: no such item"),
+    (
+        "sites 2\nitem a 0 0\nclient 0\nclient 1\npeek a",
+        "line 5: other site",
+    ),
     ("sites 1\nplan 4294967296 0", "line 2: bad number"),
     ("sites 1\nplan 0 4294967296", "line 2: bad number"),
     ("sites 1\nplan -1 0", "line 2: bad number"),
@@ -126,14 +141,19 @@ fn assert_refused(rt: &(impl Abort + AllocGlobal), text: &[u8], wanted: &str) {
 #[test]
 fn a_live_script_is_read(rt: HostRuntime) {
     let text =
-        "# two clients\nsites 2\njournal 0064\nitem a 0 100\nplan 2 03\nitem b 1 50\nclient 1\n submit\ta := a - 10 ; b := b + 10 \nquery return a\r\nclient 0\nquery return  a + b";
+        "# two clients\nsites 2\njournal 0064\nitem a 0 100\nplan 2 03\nitem b 1 50\nclient 1\n submit\ta := a - 10 ; b := b + 10 \npeek\tb \nquery return a\r\nclient 0\nquery return  a + b";
     let script = script(&rt, text.as_bytes());
     assert!(rt; script.catalog.journal() == 64);
     assert!(rt; script.drop_each == 2 && script.double_each == 3);
     let [first, second] = script.clients.as_slice() else {
         panic!(rt; "other clients");
     };
-    assert!(rt; first.site == SiteId(1) && first.requests.len() == 2);
+    assert!(rt; first.site == SiteId(1) && first.requests.len() == 3);
+    let [Wish::Do(_), Wish::Peek { number, item }, Wish::Do(last)] = first.requests.as_slice()
+    else {
+        panic!(rt; "other wishes");
+    };
+    assert!(rt; *number == 1 && *item == ItemId(1) && last.number == 2);
     assert!(rt; second.site == SiteId(0) && second.requests.len() == 1);
 }
 
@@ -144,11 +164,13 @@ fn live_scripts_are_refused(rt: HostRuntime) {
     }
 }
 
-// The three causes that live scripts alone have, as they are printed.
+// The five causes that live scripts alone have, as they are printed.
 const TEXTS: &[(LineCause, &str)] = &[
     (LineCause::ClientExpected, "line 3: client expected"),
     (LineCause::TooManyClients, "line 3: too many clients"),
     (LineCause::TooManyRequests, "line 3: too many requests"),
+    (LineCause::NoSuchItem, "line 3: no such item"),
+    (LineCause::OtherSite, "line 3: other site"),
 ];
 
 #[test]

@@ -19,7 +19,7 @@ mod view;
 mod writer;
 
 pub use face::Face;
-pub use opening::shelf;
+pub use opening::{shelf, sure_face};
 pub use part::{ShelfLog, ShelfPart};
 pub use peek::{Peek, PeekError};
 pub use reader::ShelfReader;

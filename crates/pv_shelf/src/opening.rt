@@ -148,7 +148,7 @@ fn declared_faces(alloc: Global, catalog: &Catalog, site: SiteId) -> Result<Vec<
 }
 
 /// The face of an item that has this value, whatever comes out.
-fn sure_face(alloc: Global, value: i64) -> Result<Face, NoMemory>
+pub fn sure_face(alloc: Global, value: i64) -> Result<Face, NoMemory>
     ensures { IfOk result (λ face. face ≡ sure value) }
 {
     let poly = Poly::sure(alloc, value)?;

@@ -12,6 +12,7 @@ use Rattle.pv_told.specs.declared.line.ClientWhat.TheVariants as what
 -- worn, where it is, and else that there was no memory.
 abbrev pub IsSaid : (me : ℕ) → Bool → List Stamped → Asker → ClientWhat → Type 0
 IsSaid me worn history asker (what.Line line) = line_by me asker history ≡ Some (line_of line)
+IsSaid me worn history asker (what.Peek peek) = ⊥
 IsSaid me worn history asker what.Worn = (line_by me asker history ≡ None) × (worn ≡ true)
 IsSaid me worn history asker what.NoMemory = (line_by me asker history ≡ None) × (worn ≡ false)
 

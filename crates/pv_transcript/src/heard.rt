@@ -1,6 +1,8 @@
 // The lines of what clients heard, each put after what a buffer holds.
-ghost use Rattle.std.specs.Prelude.{◌≡◌, ◌++◌, OnErr, OnOk};
+ghost use Rattle.std.specs.Prelude.{◌≡◌, ◌++◌, OnErr, OnOk, codes};
 ghost use Rattle.pv_base.specs.Catalog.{Declared};
+ghost use Rattle.pv_protocol.specs.LineText.{numbered_text};
+ghost use Rattle.pv_protocol.specs.Report as reading;
 ghost use Rattle.pv_report.specs.NamesOnlyItems.{NamesOnlyItems};
 ghost use Rattle.pv_report.specs.StillHeld.{StillHeld};
 ghost use Rattle.pv_script.specs.LineView.{line_of};
@@ -9,8 +11,8 @@ ghost use Rattle.pv_transcript.specs.Heard as heard;
 ghost use Rattle.pv_transcript.specs.Heard.{client_head, heard_line};
 
 use crate::pieces::{push_bytes, push_numbered};
-use pv_base::{Catalog, NoMemory, SiteId};
-use pv_report::push_line;
+use pv_base::{Case, Catalog, NoMemory, SiteId, TxnId, push_txn};
+use pv_report::{push_line, push_value};
 use pv_script::Line;
 
 /// The line of a request of a client, both counted from 0, where the client heard this line of its site.
@@ -57,6 +59,72 @@ pub fn push_no_memory(text: &mut Vec<u8>, client: u32, request: u32) -> Result<(
 {
     push_head(text, client, request)?;
     push_bytes(text, b"no-memory\n")
+}
+
+/// The line of such a look at an item, which found these cases after so many entries of the history.
+#[tactic(auto, using(crate::proofs::HeldLemmas::beginnings))]
+pub fn push_peeked(
+    text: &mut Vec<u8>,
+    client: u32,
+    request: u32,
+    steps: u64,
+    cases: &[Case<i64>],
+) -> Result<(), NoMemory>
+    ensures text { (catalog : Declared) → OnOk result (text.new.items ≡ text.old.items ++ heard_line catalog client request (heard.peeked steps (reading.cases cases.now))) }
+    ensures held { OnErr result (StillHeld text.old.items text.new.items) }
+    ensures begun { (catalog : Declared) → OnErr result (Begins text.new.items (text.old.items ++ heard_line catalog client request (heard.peeked steps (reading.cases cases.now)))) }
+{
+    push_look(text, client, request, steps)?;
+    push_value(text, cases)?;
+    push_bytes(text, b"\n")
+}
+
+/// The line of such a look, which found that the transaction held the item.
+#[tactic(auto, using(crate::proofs::HeldLemmas::beginnings))]
+pub fn push_peeked_locked(
+    text: &mut Vec<u8>,
+    client: u32,
+    request: u32,
+    steps: u64,
+    holder: TxnId,
+) -> Result<(), NoMemory>
+    ensures text { (catalog : Declared) → OnOk result (text.new.items ≡ text.old.items ++ heard_line catalog client request (heard.peeked steps (reading.locked holder))) }
+    ensures held { OnErr result (StillHeld text.old.items text.new.items) }
+    ensures begun { (catalog : Declared) → OnErr result (Begins text.new.items (text.old.items ++ heard_line catalog client request (heard.peeked steps (reading.locked holder)))) }
+{
+    push_look(text, client, request, steps)?;
+    push_bytes(text, b"locked ")?;
+    push_txn(text, holder)?;
+    push_bytes(text, b"\n")
+}
+
+/// The line of such a look, which found the site down.
+#[tactic(auto, using(crate::proofs::HeldLemmas::beginnings))]
+pub fn push_peeked_down(
+    text: &mut Vec<u8>,
+    client: u32,
+    request: u32,
+    steps: u64,
+    site: SiteId,
+) -> Result<(), NoMemory>
+    ensures text { (catalog : Declared) → OnOk result (text.new.items ≡ text.old.items ++ heard_line catalog client request (heard.peeked steps (reading.down site.0))) }
+    ensures held { OnErr result (StillHeld text.old.items text.new.items) }
+    ensures begun { (catalog : Declared) → OnErr result (Begins text.new.items (text.old.items ++ heard_line catalog client request (heard.peeked steps (reading.down site.0)))) }
+{
+    push_look(text, client, request, steps)?;
+    push_bytes(text, b"down\n")
+}
+
+// What the line of a look begins with.
+#[tactic(auto, using(crate::proofs::HeldLemmas::beginnings))]
+fn push_look(text: &mut Vec<u8>, client: u32, request: u32, steps: u64) -> Result<(), NoMemory>
+    ensures text { OnOk result (text.new.items ≡ text.old.items ++ (client_head client request ++ (numbered_text (codes "peek") steps ++ codes " "))) }
+    ensures held { OnErr result (StillHeld text.old.items text.new.items) }
+    ensures begun { OnErr result (Begins text.new.items (text.old.items ++ (client_head client request ++ (numbered_text (codes "peek") steps ++ codes " ")))) }
+{
+    push_head(text, client, request)?;
+    push_numbered(text, b"peek", steps)?;
+    push_bytes(text, b" ")
 }
 
 // What the line begins with.

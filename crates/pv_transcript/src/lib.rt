@@ -9,5 +9,7 @@ mod pieces;
 
 pub use catalog::push_catalog;
 pub use event::push_event;
-pub use heard::{push_heard, push_no_memory, push_worn};
+pub use heard::{
+    push_heard, push_no_memory, push_peeked, push_peeked_down, push_peeked_locked, push_worn,
+};
 pub use parts::{push_answers, push_clients_heading, push_schedule};

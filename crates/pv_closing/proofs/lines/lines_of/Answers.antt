@@ -1,10 +1,14 @@
 -- One client after another hears.
-use Rattle.std.proofs.Common.{◌≡◌, ℕ, ◌<◌, ◌≤◌, ◌+◌, List, length, get_or, take, refl, sym, subst, arith}
+use Rattle.std.proofs.Common.{◌≡◌, ℕ, ◌<◌, ◌≤◌, ◌+◌, List, All, length, get_or, take, refl, sym, subst, arith}
+use Rattle.pv_base.specs.Catalog.{Declared}
 use Rattle.pv_base.specs.declared.limits.TheConstants.{MAX_CLIENTS}
 use Rattle.pv_cell.specs.declared.site_box.SiteBox.{SiteBox}
-use Rattle.pv_closing.proofs.LineLemmas.{AreToldTo, all-are-told, one-told, this-fits, told-more}
+use Rattle.pv_closing.proofs.LineLemmas.{AreToldTo, all-are-told, one-told, this-fits, this-looks, told-more}
+use Rattle.pv_closing.proofs.LookLemmas.{closed-stands}
 use Rattle.pv_closing.proofs.lines.lines_of.Goals as goal
+use Rattle.pv_closing.specs.Boxes.{Stands}
 use Rattle.pv_opening.specs.Counts.{count_at}
+use Rattle.pv_opening.specs.Opening.{IsHere}
 use Rattle.pv_script.specs.declared.live.Client.{Client}
 
 pub loop-at-init : goal.loop-at-init
@@ -36,7 +40,40 @@ lines_by-requires-clause-site g c =
     let within : c.loop-at.at < length script.clients.items = omega (arith, c.loop-at-test.true, c.len-at-end.ensures, script.clients.ok.0) in
     let there : client.site.0 < length c.args.boxes.now =
     omega (arith, (this-fits c.live_scripts_are_small.ensures.fit script c.requires.script c.loop-at.at client c.index-client.ensures within).0, c.requires.count) in
-    subst (λ (one : SiteBox _). one.site.me ≡ client.site.0) (sym c.index-boxes-site.is) (c.requires.boxes client.site.0 box there)
+    subst (λ (one : SiteBox _). one.site.me ≡ client.site.0) (sym c.index-boxes-site.is) (c.requires.closed client.site.0 box there).number
+
+pub lines_by-requires-clause-stands : goal.lines_by-requires-clause-stands
+lines_by-requires-clause-stands g c =
+    let script = c.args.script.now in
+    let client = c.index-client.result.now in
+    let box = c.index-boxes-site.result in
+    let within : c.loop-at.at < length script.clients.items = omega (arith, c.loop-at-test.true, c.len-at-end.ensures, script.clients.ok.0) in
+    let there : client.site.0 < length c.args.boxes.now =
+    omega (arith, (this-fits c.live_scripts_are_small.ensures.fit script c.requires.script c.loop-at.at client c.index-client.ensures within).0, c.requires.count) in
+    subst (λ (one : SiteBox _). Stands one) (sym c.index-boxes-site.is)
+    (closed-stands _ script.catalog client.site.0 (get_or c.args.boxes.now client.site.0 box) (c.requires.closed client.site.0 box there))
+
+pub lines_by-requires-clause-here : goal.lines_by-requires-clause-here
+lines_by-requires-clause-here g c =
+    let script = c.args.script.now in
+    let client = c.index-client.result.now in
+    let box = c.index-boxes-site.result in
+    let within : c.loop-at.at < length script.clients.items = omega (arith, c.loop-at-test.true, c.len-at-end.ensures, script.clients.ok.0) in
+    let there : client.site.0 < length c.args.boxes.now =
+    omega (arith, (this-fits c.live_scripts_are_small.ensures.fit script c.requires.script c.loop-at.at client c.index-client.ensures within).0, c.requires.count) in
+    subst (λ (one : SiteBox _). All (IsHere one.site.catalog.items client.site.0) client.requests.items) (sym c.index-boxes-site.is)
+    (subst (λ (catalog : Declared). All (IsHere catalog.items client.site.0) client.requests.items) (sym (c.requires.closed client.site.0 box there).catalog_is)
+    (this-looks c.live_scripts_are_small.ensures.here script c.requires.script c.loop-at.at client c.index-client.ensures within))
+
+pub lines_by-requires-clause-catalog : goal.lines_by-requires-clause-catalog
+lines_by-requires-clause-catalog g c =
+    let script = c.args.script.now in
+    let client = c.index-client.result.now in
+    let box = c.index-boxes-site.result in
+    let within : c.loop-at.at < length script.clients.items = omega (arith, c.loop-at-test.true, c.len-at-end.ensures, script.clients.ok.0) in
+    let there : client.site.0 < length c.args.boxes.now =
+    omega (arith, (this-fits c.live_scripts_are_small.ensures.fit script c.requires.script c.loop-at.at client c.index-client.ensures within).0, c.requires.count) in
+    subst (λ (one : SiteBox _). one.site.catalog ≡ script.catalog) (sym c.index-boxes-site.is) (c.requires.closed client.site.0 box there).catalog_is
 
 pub lines_by-requires-clause-few : goal.lines_by-requires-clause-few
 lines_by-requires-clause-few g c =

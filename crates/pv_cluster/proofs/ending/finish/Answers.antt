@@ -1,8 +1,9 @@
 -- The rings between sites are looked at, and the clients are told.
 use Rattle.std.proofs.Common.{◌≡◌, ℕ, ◌<◌, List, length, get_or, refl, sym, subst}
 use Rattle.pv_cell.specs.declared.site_box.SiteBox.{SiteBox}
+use Rattle.pv_closing.specs.Boxes.{IsClosedBox}
 use Rattle.pv_closing.specs.Clients.{AreTold}
-use Rattle.pv_cluster.proofs.EndLemmas.{ends, last-count, last-numbers}
+use Rattle.pv_cluster.proofs.EndLemmas.{closed-last, ends, last-count}
 use Rattle.pv_cluster.proofs.LookLemmas.{are-linked}
 use Rattle.pv_cluster.proofs.StillLemmas.{stands-later, still-became}
 use Rattle.pv_cluster.proofs.ending.finish.Goals as goal
@@ -29,15 +30,15 @@ lines_of-requires-clause-count g c =
     c.boxes_lend_their_ends.ensures.is_box c.boxes_fit_together.ensures c.boxes_pass_messages_in_order.ensures c.args.boxes.items c.look_at_sites.new.boxes.items
     c.requires.closed c.look_at_sites.ensures.still c.look_at_sites.ensures.brought)
 
-pub lines_of-requires-clause-boxes : goal.lines_of-requires-clause-boxes
-lines_of-requires-clause-boxes g c =
+pub lines_of-requires-clause-closed : goal.lines_of-requires-clause-closed
+lines_of-requires-clause-closed g c =
     let M = g.L.Log.model in
     let script = c.args.script.now in
     let later =
     stands-later M script c.boxes_lend_their_ends.ensures.is_box c.boxes_lend_their_ends.ensures.course c.boxes_lend_their_ends.ensures.same
     c.boxes_stand_on.ensures.together in
-    subst (λ (all : List (SiteBox _)). (n : ℕ) (any : SiteBox _) → n < length all → (get_or all n any).site.me ≡ n) (sym c.deref.ensures.value)
-    (last-numbers M script c.requires.script (λ k any less. (c.live_scripts_are_small.ensures.fit script k any c.requires.script less).0) later
+    subst (λ (all : List (SiteBox _)). (n : ℕ) (any : SiteBox _) → n < length all → IsClosedBox M script.catalog n (get_or all n any)) (sym c.deref.ensures.value)
+    (closed-last M script c.requires.script (λ k any less. (c.live_scripts_are_small.ensures.fit script k any c.requires.script less).0) later
     c.boxes_lend_their_ends.ensures.is_box c.boxes_fit_together.ensures c.boxes_pass_messages_in_order.ensures c.args.boxes.items c.look_at_sites.new.boxes.items
     c.requires.closed c.look_at_sites.ensures.still c.look_at_sites.ensures.brought)
 

@@ -1,14 +1,11 @@
-use Rattle.std.proofs.Common.{◌≡◌, ◌++◌, ◌+◌, drop, map, sym, subst}
-use Rattle.pv_script.specs.LiveView.{request_of}
+use Rattle.std.proofs.Common.{map}
+use Rattle.pv_model.specs.LiveScript.{requests_among}
+use Rattle.pv_script.specs.LiveView.{request_of, wish_of}
 use Rattle.pv_opening.proofs.MeetLemmas.{copied-more}
 use Rattle.pv_opening.proofs.meeting.copies.Goals as goal
 
-pub loop-request-preserved : goal.loop-request-preserved
-loop-request-preserved c =
-    let requests = c.args.requests.now in
-    let i = c.loop-request.request-index in
-    let request = c.request-item.result in
-    let copy = c.in_ok-copy.copy in
-    subst (λ l. map request_of l ++ map request_of (drop (i + 1) requests) ≡ map request_of requests) (sym c.in_ok-push.ensures.items)
-    (copied-more c.loop-request.copies.items requests i copy request (map request_of requests) c.loop-request.invariant c.loop-request-test.true c.request-item.is
-    c.in_ok-copy.ensures.request)
+pub loop-wish-preserved : goal.loop-wish-preserved
+loop-wish-preserved c =
+    let wishes = c.args.wishes.now in
+    copied-more (map request_of c.loop-wish.copies.items) _ wishes c.loop-wish.wish-index c.wish-item.result (requests_among (map wish_of wishes)) c.loop-wish.invariant
+    c.loop-wish-test.true c.wish-item.is c.in_ok-push_copy.ensures

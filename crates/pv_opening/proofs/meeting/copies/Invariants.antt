@@ -1,7 +1,8 @@
--- The copies so far, and then the requests left.
+-- The copies so far, and then the requests among the wishes left.
 use Rattle.std.proofs.Common.{◌≡◌, ◌++◌, drop, map}
-use Rattle.pv_script.specs.LiveView.{request_of}
+use Rattle.pv_model.specs.LiveScript.{requests_among}
+use Rattle.pv_script.specs.LiveView.{request_of, wish_of}
 use Rattle.pv_opening.proofs.meeting.copies.Given as goal
 
-abbrev pub invariant-loop-request : goal.invariant-loop-request
-invariant-loop-request l = map request_of l.copies.items ++ map request_of (drop l.request-index l.requests) ≡ map request_of l.fn.requests
+abbrev pub invariant-loop-wish : goal.invariant-loop-wish
+invariant-loop-wish l = map request_of l.copies.items ++ requests_among (map wish_of (drop l.wish-index l.wishes)) ≡ requests_among (map wish_of l.fn.wishes)

@@ -7,7 +7,7 @@ use Rattle.pv_script.proofs.HeadLemmas.{IsLineFault-twice_sites}
 use Rattle.pv_script.proofs.LiveSaidLemmas.{sound-none}
 use Rattle.pv_script.proofs.SaidLemmas.{head-of, unknown-fault}
 use Rattle.pv_script.proofs.live_said.LiveSaid.read.Goals as goal
-use Rattle.pv_script.proofs.live_said.LiveSaid.read.Goals.{in-Journal+in_ok-limit-in-Journal, in-Item+in_ok-declare-in-Item, in-Plan+in_ok-plan-in-Plan, in-Client+in_ok-client-in-Client, in-Submit+in_ok-request-in-Submit, in-Query+in_ok-request-in-Query}
+use Rattle.pv_script.proofs.live_said.LiveSaid.read.Goals.{in-Journal+in_ok-limit-in-Journal, in-Item+in_ok-declare-in-Item, in-Plan+in_ok-plan-in-Plan, in-Client+in_ok-client-in-Client, in-Submit+in_ok-request-in-Submit, in-Query+in_ok-request-in-Query, in-Peek+in_ok-peek-in-Peek}
 
 pub returns-in_err-words-clause-fault : goal.returns-in_err-words-clause-fault
 returns-in_err-words-clause-fault c =
@@ -70,8 +70,12 @@ returns-clause-declares c =
           rw w.self-is (inr (inr (inr (inr (inl (w.in_ok-client-in-Client.ensures.declares c.args.line.now
           (head-of (before_of_live c.args.self.now) c.args.line.now c.in_ok-words.words.items c.deref.result.now _ (texts c.in_ok-keyword.args.now) c.args.self.now.said.catalog.sites
           c.in_ok-words.ensures.words.0 c.in_ok-words.ensures.words.1 c.deref.ensures.value (rw w.in-Client.is at c.in_ok-keyword.ensures.words) refl)))))))
-      | in-Submit+in_ok-request-in-Submit w ↦ rw w.self-is (inr (inr (inr (inr (inr w.in_ok-request-in-Submit.ensures.declares)))))
-      | in-Query+in_ok-request-in-Query w ↦ rw w.self-is (inr (inr (inr (inr (inr w.in_ok-request-in-Query.ensures.declares)))))
+      | in-Submit+in_ok-request-in-Submit w ↦ rw w.self-is (inr (inr (inr (inr (inr (inl w.in_ok-request-in-Submit.ensures.declares))))))
+      | in-Query+in_ok-request-in-Query w ↦ rw w.self-is (inr (inr (inr (inr (inr (inl w.in_ok-request-in-Query.ensures.declares))))))
+      | in-Peek+in_ok-peek-in-Peek w ↦
+          rw w.self-is (inr (inr (inr (inr (inr (inr (w.in_ok-peek-in-Peek.ensures.declares c.args.line.now
+          (head-of (before_of_live c.args.self.now) c.args.line.now c.in_ok-words.words.items c.deref.result.now _ (texts c.in_ok-keyword.args.now) c.args.self.now.said.catalog.sites
+          c.in_ok-words.ensures.words.0 c.in_ok-words.ensures.words.1 c.deref.ensures.value (rw w.in-Peek.is at c.in_ok-keyword.ensures.words) refl))))))))
     ]
 
 pub returns-clause-sound : goal.returns-clause-sound
@@ -91,4 +95,5 @@ returns-clause-sound c =
       | in-Client+in_ok-client-in-Client w ↦ rw w.self-is w.in_ok-client-in-Client.ensures.sound
       | in-Submit+in_ok-request-in-Submit w ↦ rw w.self-is w.in_ok-request-in-Submit.ensures.sound
       | in-Query+in_ok-request-in-Query w ↦ rw w.self-is w.in_ok-request-in-Query.ensures.sound
+      | in-Peek+in_ok-peek-in-Peek w ↦ rw w.self-is w.in_ok-peek-in-Peek.ensures.sound
     ]

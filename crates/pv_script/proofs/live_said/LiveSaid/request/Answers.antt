@@ -50,7 +50,7 @@ returns-clause-declares c =
       program = c.in_ok-found.found.program;
       plan = c.in_ok-found.found.plan;
     } in
-    on-ok c.push_request.result c.push_request.ensures.clients
+    on-ok c.push_wish.result c.push_wish.ensures.clients
     (λ same. DeclaresRequest-read (before_of_live c.args.self.now) _ c.args.line.now c.args.args.now (request_of request) refl c.requires.head
     (some-args c.args.args.now c.is_empty.result c.is_empty.ensures c.if-is_empty.false)
     (c.in_ok-found.ensures.text ∙ c.live_program_text.ensures.text) client number
@@ -62,7 +62,7 @@ returns-clause-declares c =
 pub returns-clause-sound : goal.returns-clause-sound
 returns-clause-sound c =
     let client = rw c.deref.ensures.value at c.in_ok-number.ensures.some in
-    on-ok c.push_request.result (c.push_request.ensures.plans c.args.self.now.said.catalog c.requires.sound.plans c.in_ok-found.ensures.plan)
+    on-ok c.push_wish.result (c.push_wish.ensures.plans c.args.self.now.said.catalog c.requires.sound.plans c.in_ok-found.ensures.plan)
     (λ plans. record {
       limited = c.requires.sound.limited;
       early = λ quiet. absurd (client (ap (map client_of) (c.requires.sound.early quiet)));
