@@ -12,7 +12,7 @@ pub loop-bytes-init : goal.loop-bytes-init
 loop-bytes-init c =
     let found = λ (contents : Contents) (are : AreRecords contents c.args.records.now).
     first-found c.args.records.now c.args.room c.record_length-bytes.result contents are c.requires.some c.record_length-bytes.ensures.length in
-    ((found c.requires.are.0 c.requires.are.1).0, (omega (arith, c.record_length-bytes.ensures.least), λ contents are. (found contents are).1))
+    ((found c.requires.are.0 c.requires.are.1).0, omega (arith, c.record_length-bytes.ensures.least), λ contents are. (found contents are).1)
 
 pub record_length-requires : goal.record_length-requires
 record_length-requires c =
@@ -37,7 +37,7 @@ loop-bytes-preserved c =
     contents are (c.loop-bytes.invariant.2 contents are) c.split_at.ensures.back (search rules) c.record_length.result c.record_length.ensures.length (search rules) in
     let first = more c.requires.are.0 c.requires.are.1 in
     let fewer : c.loop-bytes.count + 1 ≤ c.loop-bytes.bytes + c.record_length.result = omega (arith, c.loop-bytes.invariant.1, first.0) in
-    (first.1.0, (fewer, λ contents are. (more contents are).1.1))
+    (first.1.0, fewer, λ contents are. (more contents are).1.1)
 
 pub returns : goal.returns
 returns c = λ contents are.
