@@ -329,6 +329,8 @@ pub struct Info {
     pub limit: u64,
     /// The epoch in which the site was opened, unless something is to be written: a crash may undo it.
     pub epoch: Option<u32>,
+    /// How many records are in the file; or `u32::MAX` if there are more, for which a journal of [`MAX_JOURNAL`] has no room.
+    pub records: u32,
 }
 
 // How far a site is, as C has it.
@@ -339,6 +341,7 @@ struct Told {
     asked: u64,
     limit: u64,
     epoch: u32,
+    records: u32,
 }
 
 /// The status and the text that `polydb run` gives for a schedule. At status 0 all of it was run.
@@ -581,6 +584,7 @@ impl Site {
             asked: told.asked,
             limit: told.limit,
             epoch: (told.epoch != 0).then_some(told.epoch),
+            records: told.records,
         })
     }
 
@@ -684,7 +688,7 @@ mod tests {
 
     #[test]
     fn the_version_is_told() {
-        assert_eq!(version(), 200);
+        assert_eq!(version(), 300);
     }
 
     #[test]
