@@ -7,7 +7,7 @@ use Rattle.pv_base.specs.Catalog.{place_of}
 use Rattle.pv_base.specs.declared.limits.TheConstants.{MAX_REQUESTS}
 use Rattle.pv_model.specs.LineCauses.{Before, Has, home_of, last_requests, last_site}
 use Rattle.pv_model.specs.LineForms.{Script, live, Field, item_name, first_word, forms_of, is_wished, arguments, form_of, fields_of, fields_in}
-use Rattle.pv_model.specs.LiveScript.{to_peek}
+use Rattle.pv_model.specs.LiveScript.{Client, to_peek}
 use Rattle.pv_model.specs.Schedule.{DeclaresPeek, with_wish}
 use Rattle.pv_model.specs.Text.{TextLine, words}
 use Rattle.pv_script.specs.LineFaults.{texts, form_among, IsLineFault}
