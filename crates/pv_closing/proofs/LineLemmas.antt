@@ -57,7 +57,7 @@ module _ {W : Type 0} (box : SiteBox W) (place : ℕ) (worn : Bool) (to : worn �
   pub one-heard : (k : ℕ) (wish : Wish) (line told : ClientLine) → line.request ≡ k → IsSaid box.site.me worn (history_in box) (record { client = place; number = k }) line.what
       → IsLineFor box wish line told → IsTold box place k wish told
   one-heard k (Do request) line told is said same =
-      let heard_line = (is, heard (record { client = place; number = k }) line.what said, untold k line.what said) in
+      let heard_line : IsTold box place k (Do request) line = (is, heard (record { client = place; number = k }) line.what said, untold k line.what said) in
       subst (λ (one : ClientLine). IsTold box place k (Do request) one) (sym same) heard_line
   one-heard k (Peek number item) line told is said found = (found.0 ∙ is, found.1)
 

@@ -20,7 +20,7 @@ put_looks-requires-clause-here g c =
 
 pub put_looks-requires-clause-said : goal.put_looks-requires-clause-said
 put_looks-requires-clause-said g c =
-    no-looks c.args.client.now.site.0 c.is_worn.result (stamps_of c.history.result.now) c.args.place c.wishes c.in_ok-lines.lines.items c.in_ok-lines.ensures
+    no-looks c.args.client.now.site.0 c.is_worn.result (stamps_of c.history.result.now) c.args.place _ c.in_ok-lines.lines.items c.in_ok-lines.ensures
 
 pub returns : goal.returns
 returns g c =
@@ -34,5 +34,5 @@ returns g c =
     all-heard of place worn c.is_worn.ensures.0 c.is_worn.ensures.1 client said _
     (subst (λ (me : ℕ). AreLinesOf me worn (stamps_of of.history.items) place count said) (sym c.requires.site)
     (subst (λ (entries : List Entry). AreLinesOf client.site.0 worn (stamps_of entries) place count said) c.history.ensures
-    (subst (λ (n : ℕ). AreLinesOf client.site.0 worn (stamps_of c.history.result.now) place n said) (c.len-requests.ensures ∙ client.requests.ok.0) c.in_ok-lines.ensures)))
+    (subst (λ (n : ℕ). AreLinesOf client.site.0 worn (stamps_of c.history.result.now) place n said) (c.len-wishes.ensures ∙ client.requests.ok.0) c.in_ok-lines.ensures)))
     (subst (λ (ws : List Wish). HaveLooked of ws said (length ws) c.put_looks.new.lines.items) c.deref.ensures.value c.put_looks.ensures)
