@@ -5,3 +5,4 @@ pub mod MoreLemmas
 pub mod ReadLemmas
 pub mod StandingLemmas
 pub mod ValueLemmas
+pub mod WorldLemmas

@@ -4,3 +4,4 @@ pub mod Given
 pub mod Kept
 pub mod Naive
 pub mod StandsFor
+pub mod Worlds

@@ -6,6 +6,7 @@ mod examples;
 mod lists;
 mod naive;
 mod reading;
+mod worlds;
 
 pub use compacted::compacted_records_stand;
 pub use examples::it_is_worked_out;
@@ -15,3 +16,4 @@ pub use lists::{
 };
 pub use naive::{naive_ways_dont_stand, order_counts};
 pub use reading::{own_commits_are_the_same, promises_are_the_same, shown_values_are_the_same};
+pub use worlds::{kept_worlds_agree_too, kept_worlds_read_the_same};
