@@ -105,7 +105,7 @@ impl Cell {
     ) -> Result<Stepped, NoMemory>
         requires { TakesInput catalog.now site.0 self.old input }
         ensures { (is : model.Site) → StandsForSite catalog.now site.0 self.old is →
-            IfOk result (HasStepped catalog.now site.0 self.old self.new is is.running (input_in input)) }
+            IfOk result (HasStepped catalog.now site.0 self.old self.new is is.running (input_in input.entry)) }
     {
         armed_logs();
         let Cell::Up(up) = self else {

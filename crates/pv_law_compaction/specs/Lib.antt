@@ -1,0 +1,6 @@
+pub mod Compact
+pub mod Examples
+pub mod Given
+pub mod Kept
+pub mod Naive
+pub mod StandsFor
