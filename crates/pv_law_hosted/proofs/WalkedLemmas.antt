@@ -1,5 +1,5 @@
 -- What happens in a deployment becomes of each of its stations; and a process's site keeps its number and its catalog.
-use Rattle.std.proofs.Common.{◌≡◌, ◌⊎◌, inl, inr, ⊎_elim, ℕ, ◌<◌, ◌≤◌, Option, Some, None, List, length, get_or-set_same, get_or-set_other, refl, sym, ap, ◌∙◌, subst, arith}
+use Rattle.std.proofs.Common.{◌≡◌, ◌⊎◌, inl, inr, ⊎_elim, ℕ, ◌<◌, ◌≤◌, Option, Some, List, length, get_or-set_same, get_or-set_other, refl, sym, ap, ◌∙◌, subst, arith}
 use Rattle.std.proofs.lemmas.Bool.{cases_eq, cases_lt}
 use Rattle.std.proofs.lemmas.List.{get_or_past, length-set}
 use Rattle.pv_base.specs.Catalog.{Declared}
@@ -13,7 +13,7 @@ use Rattle.pv_law_hosted.proofs.CallLemmas.{some-same}
 use Rattle.pv_law_hosted.specs.Alone.{GoesOn, happens}
 use Rattle.pv_law_hosted.specs.Calls.{HasSite}
 use Rattle.pv_law_hosted.specs.Deployment.{Deployment, Station, no_station, station_at, with_station}
-use Rattle.pv_law_hosted.specs.DeploymentEvents.{Happens, HappensAt, HappensTo, Stands, asks, goes, idles, is_writing, lets_out, stays, takes, writes}
+use Rattle.pv_law_hosted.specs.DeploymentEvents.{Happens, HappensAt, HappensTo, asks, goes, idles, is_writing, lets_out, stays, takes, writes}
 
 -- A site of an opening has its number, and the catalog of its configuration.
 pub opened-has : ((text : List ℕ) (schedule other : Schedule) → IsSchedule text schedule → IsSchedule text other → schedule ≡ other)
