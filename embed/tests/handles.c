@@ -455,7 +455,7 @@ static void what_became(void) {
     CHECK(polydb_site_outcome(&site, 1, 1, 0, &outcome) == POLYDB_NOT_HERE && outcome == 0);
     write_all(&site, file, sizeof file, &length);
     CHECK(polydb_site_info(&site, &info) == POLYDB_DONE && info.stored == info.asked && info.stored == length && info.epoch == 1);
-    CHECK(info.records == records_in(file) && info.records > 1);
+    CHECK(info.records == 1 && records_in(file) == 1);
     CHECK(outcome_of(&site, 1, 0) == POLYDB_AT_WORK);
     CHECK(outcome_of(&site, 1, 1) == 100 + POLYDB_NOTHING);
     CHECK(outcome_of(&site, 2, 0) == 100 + POLYDB_NOTHING);
@@ -476,7 +476,8 @@ static void what_became(void) {
     CHECK(outcome_of(&site, 1, 0) == POLYDB_COMMITTED);
     CHECK(outcome_of(&site, 1, 1) == POLYDB_NOT_COMMITTED);
     CHECK(outcome_of(&site, 2, 0) == 100 + POLYDB_NOTHING);
-    CHECK(polydb_site_info(&site, &info) == POLYDB_DONE && info.epoch == 2 && info.records == records_in(file));
+    CHECK(polydb_site_info(&site, &info) == POLYDB_DONE && info.epoch == 2);
+    CHECK(info.records == records_in(file) && info.records > 2);
     polydb_site_close(&site);
 }
 

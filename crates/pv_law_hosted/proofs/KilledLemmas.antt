@@ -1,5 +1,5 @@
 -- A transaction whose number was let out by a process that has gone before it let out that it asks for votes: it is dead in the run.
-use Rattle.std.proofs.Common.{◌≡◌, ⊎_elim, ℕ, ◌<◌, true, false, None, List, inl, inr, IsTrue, refl, sym, ap, ◌∙◌, subst}
+use Rattle.std.proofs.Common.{◌≡◌, ⊎_elim, ℕ, ◌<◌, true, false, None, List, inl, inr, sym, ap, subst}
 use Rattle.std.specs.List.{Contains}
 use Rattle.std.proofs.lemmas.Bool.{cases_Bool}
 use Rattle.std.proofs.lemmas.List.Elements.{Contains-append_left}
@@ -8,7 +8,7 @@ use Rattle.pv_law_acts.specs.Seen.{IsDead, IsPassed, memory_at, work_in}
 use Rattle.pv_model.specs.Events.{Event}
 use Rattle.pv_protocol.specs.Committed.{home_of, is_committed}
 use Rattle.pv_protocol.specs.State.{Setup, Site, began}
-use Rattle.pv_protocol.specs.World.{World, first_site, site_at}
+use Rattle.pv_protocol.specs.World.{World, site_at}
 use Rattle.pv_embed.specs.Held.{note}
 use Rattle.pv_law_hosted.proofs.NumberEvents.{is-asked-after}
 use Rattle.pv_law_hosted.specs.Claims.{HoldsSite}

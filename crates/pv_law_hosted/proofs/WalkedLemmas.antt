@@ -1,5 +1,5 @@
 -- What happens in a deployment becomes of each of its stations; and a process's site keeps its number and its catalog.
-use Rattle.std.proofs.Common.{◌≡◌, ◌⊎◌, inl, inr, ⊎_elim, ℕ, ◌<◌, ◌≤◌, Option, Some, None, List, length, get_or-set_same, get_or-set_other, refl, sym, ap, ◌∙◌, subst, arith}
+use Rattle.std.proofs.Common.{◌≡◌, ◌⊎◌, inl, inr, ⊎_elim, ℕ, ◌<◌, ◌≤◌, Option, Some, List, length, get_or-set_same, get_or-set_other, refl, sym, ap, ◌∙◌, subst, arith}
 use Rattle.std.proofs.lemmas.Bool.{cases_eq, cases_lt}
 use Rattle.std.proofs.lemmas.List.{get_or_past, length-set}
 use Rattle.pv_base.specs.Catalog.{Declared}
@@ -13,7 +13,7 @@ use Rattle.pv_law_hosted.proofs.CallLemmas.{some-same}
 use Rattle.pv_law_hosted.specs.Alone.{GoesOn, happens}
 use Rattle.pv_law_hosted.specs.Calls.{HasSite}
 use Rattle.pv_law_hosted.specs.Deployment.{Deployment, Station, no_station, station_at, with_station}
-use Rattle.pv_law_hosted.specs.DeploymentEvents.{Happens, HappensAt, HappensTo, Stands, asks, goes, idles, is_writing, lets_out, stays, takes, writes}
+use Rattle.pv_law_hosted.specs.DeploymentEvents.{Happens, HappensAt, HappensTo, asks, goes, idles, is_writing, lets_out, stays, takes, writes}
 
 -- A site of an opening has its number, and the catalog of its configuration.
 pub opened-has : ((text : List ℕ) (schedule other : Schedule) → IsSchedule text schedule → IsSchedule text other → schedule ≡ other)
@@ -32,25 +32,25 @@ opened-has one_schedule config file schedule d n site configures opened here =
 abbrev IsOfSame : HostedState → HostedState → Type 0
 IsOfSame site next = (next.site.me ≡ site.site.me) × (next.site.catalog ≡ site.site.catalog)
 
-same-by : (site made next : HostedState) → (made.site.me ≡ site.site.me) × (made.site.catalog ≡ site.site.catalog) → Some made ≡ Some next → IsOfSame site next
+same-by : (site made next : HostedState) → IsOfSame site made → Some made ≡ Some next → IsOfSame site next
 same-by site made next same is = subst (IsOfSame site) (some-same is) same
 
-same-site : (catalog : Declared) (d : Deployment) (n : ℕ) (site : HostedState) (old new : Station) (next : HostedState) → old.hosted ≡ Some site
-    → HappensTo catalog d n site old new → new.hosted ≡ Some next → IsOfSame site next
-same-site catalog d n site old _ next here (takes made input may s) is =
-    same-by site made next (ap (λ (after : SiteState HostState). after.me) s.steps.site, ap (λ (after : SiteState HostState). after.catalog) s.steps.site) is
-same-site catalog d n site old _ next here (stays made (log, same)) is =
-    same-by site made next (ap (λ (h : HostedState). h.site.me) same, ap (λ (h : HostedState). h.site.catalog) same) is
-same-site catalog d n site old _ next here (asks made room a) is =
-    same-by site made next (ap (λ (h : HostedState). h.site.me) a.same, ap (λ (h : HostedState). h.site.catalog) a.same) is
-same-site catalog d n site old _ next here (is_writing left may) is = same-by site site next (refl, refl) (sym here ∙ is)
-same-site catalog d n site old _ next here (writes made write due w) is =
-    same-by site made next (ap (λ (h : HostedState). h.site.me) w.same, ap (λ (h : HostedState). h.site.catalog) w.same) is
-same-site catalog d n site old _ next here (idles made due w) is =
-    same-by site made next (ap (λ (h : HostedState). h.site.me) w.same, ap (λ (h : HostedState). h.site.catalog) w.same) is
-same-site catalog d n site old _ next here (lets_out made first later held within same) is =
-    same-by site made next (ap (λ (h : HostedState). h.site.me) same, ap (λ (h : HostedState). h.site.catalog) same) is
-same-site catalog d n site old _ next here (goes left may) is = absurd cc
+module _ (catalog : Declared) (d : Deployment) (n : ℕ) (site next : HostedState) (old : Station) (here : old.hosted ≡ Some site) where
+  by-record : (made : HostedState) (log : HostState) → made ≡ record site { site = record site.site { log = log } } → Some made ≡ Some next → IsOfSame site next
+  by-record made log same is = same-by site made next (ap (λ (h : HostedState). h.site.me) same, ap (λ (h : HostedState). h.site.catalog) same) is
+
+  same-site : (new : Station) → HappensTo catalog d n site old new → new.hosted ≡ Some next → IsOfSame site next
+  same-site new (takes made input may stepped) is =
+      let same = stepped.steps.site in
+      same-by site made next (ap (λ (after : SiteState HostState). after.me) same, ap (λ (after : SiteState HostState). after.catalog) same) is
+  same-site new (stays made same) is = by-record made made.site.log same.1 is
+  same-site new (asks made room asked) is = by-record made made.site.log asked.same is
+  same-site new (is_writing left may) is = same-by site site next (refl, refl) (sym here ∙ is)
+  same-site new (writes made write due wrote) is = by-record made made.site.log wrote.same is
+  same-site new (idles made none wrote) is = by-record made made.site.log wrote.same is
+  same-site new (lets_out made first later held within same) is =
+      same-by site made next (ap (λ (h : HostedState). h.site.me) same, ap (λ (h : HostedState). h.site.catalog) same) is
+  same-site new (goes left may) is = absurd cc
 
 -- ## What happens, at one station of all
 module _ (config : List ℕ) (catalog : Declared) (d later : Deployment) (h : Happens config catalog d later) (n : ℕ) where
@@ -66,7 +66,7 @@ module _ (config : List ℕ) (catalog : Declared) (d later : Deployment) (h : Ha
       let long : length later ≡ length d = ap length h.after ∙ length-set d h.n h.new in
       inr (get_or_past later n no_station (omega (arith, long, beyond)) ∙ sym (get_or_past d n no_station beyond)))
       (cases_lt n (length d)))
-      (λ apart. inr (is ∙ get_or-set_other d h.n n h.new no_station apart))
+      (λ apart. inr (is ∙ get_or-set_other d h.n n h.new no_station (λ same. apart (sym same))))
       (cases_eq h.n n)
 
   happens-there : h.n ≡ n → HappensAt config catalog d n (station_at d n) (station_at d n).hosted h.new
@@ -85,7 +85,7 @@ module _ (config : List ℕ) (catalog : Declared) (d later : Deployment) (h : Ha
       let same : IsOfSame site next =
       ⊎_elim
       (λ there.
-      same-site catalog d n site (station_at d n) h.new next has.here
+      same-site catalog d n site next (station_at d n) has.here h.new
       (subst (λ (hosted : Option HostedState). HappensAt config catalog d n (station_at d n) hosted h.new) has.here (happens-there there.0))
       (sym (ap (λ (s : Station). s.hosted) there.1) ∙ here))
       (λ stays. same-by site site next (refl, refl) (sym has.here ∙ sym (ap (λ (s : Station). s.hosted) stays) ∙ here))

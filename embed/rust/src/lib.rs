@@ -709,7 +709,10 @@ mod tests {
         let mut site = Site::open(CATALOG, 0, EMPTY_JOURNAL).unwrap();
         assert_eq!(site.item(1), Ok(Some((b"b".to_vec(), 1))));
         assert_eq!(site.item(2), Ok(None));
-        assert_eq!(site.info().map(|info| info.epoch), Ok(None));
+        assert_eq!(
+            site.info().map(|info| (info.epoch, info.records)),
+            Ok((None, 0))
+        );
         site.submit_tagged(b"a := a - 10 ; b := b + 10", false, 7)
             .unwrap();
         assert_eq!(site.outcome(0, 1, 0), Err(Error::Unwritten));
@@ -719,7 +722,10 @@ mod tests {
         }
         assert_eq!(site.outcome(0, 1, 0), Ok(Some(Outcome::AtWork)));
         assert_eq!(site.outcome(0, 1, 1), Ok(None));
-        assert_eq!(site.info().map(|info| info.epoch), Ok(Some(1)));
+        assert_eq!(
+            site.info().map(|info| (info.epoch, info.records)),
+            Ok((Some(1), 1))
+        );
 
         // The tag comes with the report of the number.
         let mut reports = Vec::new();
