@@ -97,7 +97,7 @@ module _ (records : List Record) where
           Contains-behind (epoch_begun (greatest_epoch records)) behind kept
           (Contains-append_right (own_commits site records) after_commits kept (Contains-append_right saved (open_promises records) kept h))
 
-      in-parts : (kept : Record) → Contains behind kept → Contains (own_commits site records) kept ⊎ (Contains saved kept ⊎ IsOpenPromise kept)
+      pub in-parts : (kept : Record) → Contains behind kept → Contains (own_commits site records) kept ⊎ (Contains saved kept ⊎ IsOpenPromise kept)
       in-parts kept h =
           ⊎_elim
           (λ commit. inl commit)
@@ -136,7 +136,7 @@ module _ (records : List Record) where
           (in-parts (outcome_known t b) rest))
           (Contains-cases (epoch_begun (greatest_epoch records)) behind (outcome_known t b) h)
 
-      no-start : (epoch : ℕ) → Contains behind (epoch_begun epoch) → ⊥
+      pub no-start : (epoch : ℕ) → Contains behind (epoch_begun epoch) → ⊥
       no-start epoch h =
           ⊎_elim
           (λ commit. false≢true (kept-passes (is_own_commit site records) records (epoch_begun epoch) commit))

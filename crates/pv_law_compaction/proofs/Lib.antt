@@ -2,6 +2,7 @@ pub mod CompactLemmas
 pub mod GroupLemmas
 pub mod KnownLemmas
 pub mod MoreLemmas
+pub mod RangeLemmas
 pub mod ReadLemmas
 pub mod StandingLemmas
 pub mod ValueLemmas

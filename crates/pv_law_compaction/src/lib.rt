@@ -8,7 +8,7 @@ mod naive;
 mod reading;
 mod worlds;
 
-pub use compacted::compacted_records_stand;
+pub use compacted::{compacted_records_are_in_range, compacted_records_stand};
 pub use examples::it_is_worked_out;
 pub use lists::{
     appended_records_are_stood_for, forgotten_outcomes_may_come_again,
