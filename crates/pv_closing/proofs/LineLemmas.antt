@@ -11,7 +11,6 @@ use Rattle.pv_base.specs.declared.limits.TheConstants.{MAX_REQUESTS}
 use Rattle.pv_model.specs.LiveScript as model
 use Rattle.pv_law_passing.specs.Asking.{asked_by}
 use Rattle.pv_mail.specs.declared.asked.Asker.{Asker}
-use Rattle.pv_rings.specs.Rings.{Each}
 use Rattle.pv_rings.proofs.EachLemmas.{get_or-any}
 use Rattle.pv_script.specs.LineView.{line_of}
 use Rattle.pv_script.specs.declared.live.Client.{Client}

@@ -16,7 +16,6 @@ use Rattle.pv_cell.specs.declared.site_box.SiteBox.{SiteBox}
 use Rattle.pv_law_histories.specs.Course.{course}
 use Rattle.pv_law_histories.specs.History.{Stamped}
 use Rattle.pv_law_histories.specs.Peeks.{reading_after, reading_in}
-use Rattle.pv_mail.specs.declared.asked.Asker.{Asker}
 use Rattle.pv_model.specs.LineCauses.{home_of}
 use Rattle.pv_protocol.specs.Lock.{is_home, is_of_site}
 use Rattle.pv_protocol.specs.Report.{Reading, cases, locked, down, reading_at, shown_unless_held}

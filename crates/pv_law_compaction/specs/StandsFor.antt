@@ -26,7 +26,7 @@ pub record StandsFor (limit : ℕ) (catalog : Declared) (site : ℕ) (kept all :
   pub outcomes : (txn : TxnId) (commits : Bool) → IsTrue (is_given txn) → Contains kept (outcome_known txn commits) → known all txn ≡ Some commits
   -- and each commit of a transaction that the site began is known
   pub commits : (txn : TxnId) → IsTrue (is_given txn) → home_of txn ≡ site → known all txn ≡ Some true → known kept txn ≡ Some true
-  -- the site can be started from each front of the list
+  -- after each of its promises the items name few outcomes, so a site may read the list from its front on
   pub narrow : IsNarrow limit catalog site kept
   -- and what it shows depends on transactions alone whose numbers were given
   pub given : DependOnGiven catalog site kept

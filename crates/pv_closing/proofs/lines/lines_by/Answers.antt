@@ -1,14 +1,13 @@
 -- What the history of the client's site says of each request, and what the client finds of each item that it looks at.
-use Rattle.std.proofs.Common.{◌≡◌, ℕ, List, All, length, sym, subst, ◌∙◌, arith}
+use Rattle.std.proofs.Common.{ℕ, List, All, length, sym, subst, ◌∙◌}
 use Rattle.pv_history.specs.Entries.{stamps_of}
 use Rattle.pv_history.specs.declared.entry.Entry.{Entry}
 use Rattle.pv_opening.specs.Opening.{IsHere}
 use Rattle.pv_script.specs.declared.live.Wish.{Wish}
 use Rattle.pv_told.specs.Lines.{AreLinesOf}
-use Rattle.pv_told.specs.declared.line.ClientLine.{ClientLine}
 use Rattle.pv_closing.proofs.LineLemmas.{all-heard}
 use Rattle.pv_closing.proofs.LookLemmas.{no-looks}
-use Rattle.pv_closing.specs.Lines.{HaveLooked, IsNoLook}
+use Rattle.pv_closing.specs.Lines.{HaveLooked}
 use Rattle.pv_closing.proofs.lines.lines_by.Goals as goal
 
 pub put_looks-requires-clause-here : goal.put_looks-requires-clause-here

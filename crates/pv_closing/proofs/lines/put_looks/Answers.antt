@@ -1,10 +1,8 @@
 -- One look after another is put.
-use Rattle.std.proofs.Common.{◌≡◌, ◌∙◌, ◌||◌, ℕ, Bool, ◌<◌, ◌+◌, [], ◌∷◌, suc, length, get_or, take, refl, sym, ap, subst, arith}
+use Rattle.std.proofs.Common.{◌≡◌, ◌∙◌, ◌||◌, ℕ, Bool, ◌<◌, ◌+◌, [], ◌∷◌, suc, length, take, refl, sym, ap, subst, arith}
 use Rattle.pv_opening.specs.Opening.{IsHere}
 use Rattle.pv_script.specs.declared.live.Wish.{Wish}
-use Rattle.pv_shelf.specs.declared.peek.Peek.{Peek}
 use Rattle.pv_told.specs.declared.line.ClientLine.{ClientLine}
-use Rattle.pv_told.specs.declared.line.ClientWhat.TheVariants as what
 use Rattle.pv_closing.proofs.LookLemmas.{asked-next, looked-more, looked-none}
 use Rattle.pv_closing.proofs.lines.put_looks.Goals as goal
 use Rattle.pv_closing.specs.Lines.{HaveLooked, IsNoLook, has_request, looked_after}
