@@ -53,8 +53,8 @@ extern "C" {
 
 /* ---- the version, and limits ---- */
 
-/* The version that this header describes, 0.2.0: 10,000 times the first number, 100 times the second, and the third. */
-#define POLYDB_VERSION_NUMBER 200u
+/* The version that this header describes, 0.3.0: 10,000 times the first number, 100 times the second, and the third. */
+#define POLYDB_VERSION_NUMBER 300u
 
 /* The version of the library, in the same way: a program that loads the library may find another one than it was compiled for. */
 uint32_t polydb_version(void);
@@ -492,6 +492,7 @@ typedef struct {
     uint64_t asked;  /* as many as there are once all is written that the site has asked for */
     uint64_t limit;  /* as many as there may be: of the configuration */
     uint32_t epoch;  /* the epoch in which the site was opened; 0 while something is to be written, since a crash may undo it */
+    uint32_t records; /* records that are in the file, by what the host has said; 4294967295 if there are more, for which a journal of POLYDB_MAX_JOURNAL has no room */
 } polydb_info;
 
 /*

@@ -50,6 +50,15 @@ def parts(text):
     return found.groups()
 
 
+def looks(script, text):
+    """What is wrong with what clients found who looked at items (`.ci/looks`), in the text of a run of the script; nothing, if all is right."""
+    with tempfile.TemporaryDirectory(dir=memory()) as where:
+        for name, content in ("script", script), ("text", text):
+            (Path(where) / name).write_text(content)
+        ran = subprocess.run([TOP / ".ci" / "looks", PROGRAM, "script", "text"], stdout=subprocess.PIPE, stderr=subprocess.STDOUT, cwd=where, text=True)
+    return ran.stdout if ran.returncode else ""
+
+
 def pairs(requests):
     """A script of 16 sites and 8 clients, each of which moves 1 so often between two sites of its own."""
     lines = ["sites 16"]

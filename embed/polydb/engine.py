@@ -273,7 +273,7 @@ class _Fault(ctypes.Structure):
 class _Info(ctypes.Structure):
     """How far a site is, as C has it."""
 
-    _fields_ = [("stored", c_uint64), ("asked", c_uint64), ("limit", c_uint64), ("epoch", c_uint32)]
+    _fields_ = [("stored", c_uint64), ("asked", c_uint64), ("limit", c_uint64), ("epoch", c_uint32), ("records", c_uint32)]
 
 
 class _JournalInfo(ctypes.Structure):
@@ -398,7 +398,7 @@ def config_grows(before: Text, later: Text) -> bool:
 
 
 def version() -> Tuple[int, int, int]:
-    """The version of the library: (0, 2, 0)."""
+    """The version of the library: (0, 3, 0)."""
     number = _version()
     return number // 10_000, number // 100 % 100, number % 100
 
@@ -515,12 +515,14 @@ class Outcome(Enum):
 
 
 class Info(NamedTuple):
-    """How far a site is: bytes of its journal in the file, as many as there are once all is written, as many as there may be; and its epoch, or None while something is to be written."""
+    """How far a site is: bytes of its journal in the file, as many as there are once all is written, as many as there may be; its epoch, or None while something is to be written; and records
+    of its journal in the file."""
 
     stored: int
     asked: int
     limit: int
     epoch: Optional[int]
+    records: int
 
 
 class JournalInfo(NamedTuple):
@@ -624,7 +626,7 @@ class Site(_Open):
         """How far the site is."""
         info = _Info()
         _check(self._call(_site_info, byref(info)), "info")
-        return Info(info.stored, info.asked, info.limit, info.epoch or None)
+        return Info(info.stored, info.asked, info.limit, info.epoch or None, info.records)
 
     def items(self) -> List[Placed]:
         """All items of the configuration, in the order in which it declares them."""

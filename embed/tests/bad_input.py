@@ -27,6 +27,14 @@ def refused(error, call, *arguments):
         raise AssertionError(f"not refused: {error}")
 
 
+def records_in(journal):
+    """How many records a journal has: each stands behind an open gate, after its length in four bytes."""
+    count, gate = 0, len(polydb.EMPTY_JOURNAL) - 1
+    while journal[gate] == 1:
+        count, gate = count + 1, gate + 5 + int.from_bytes(journal[gate + 1 : gate + 5], "big")
+    return count
+
+
 def new_site(me):
     return Site(CONFIG, me, polydb.EMPTY_JOURNAL)
 
@@ -49,6 +57,7 @@ class Hosted:
             self.writes.append((bytes(self.file), write))
             self.write(write)
             self.site.written(write)
+            assert self.site.info().records == records_in(self.file)
         let_out = []
         while (output := self.site.take()) is not None:
             let_out.append(output)
@@ -174,11 +183,11 @@ def what_is_asked():
     """Items, how far a site is, and what became of a transaction."""
     host = Hosted(0)
     assert host.site.items() == [polydb.Placed("a", 0), polydb.Placed("b", 1)]
-    assert host.site.info() == polydb.Info(9, 19, polydb.MAX_JOURNAL, None)
+    assert host.site.info() == polydb.Info(9, 19, polydb.MAX_JOURNAL, None, 0)
     refused(polydb.Unwritten, host.site.outcome, "0.1.0")
     refused(polydb.NotHere, host.site.outcome, "1.1.0")
     host.settle()
-    assert host.site.info() == polydb.Info(19, 19, polydb.MAX_JOURNAL, 1)
+    assert host.site.info() == polydb.Info(19, 19, polydb.MAX_JOURNAL, 1, 1)
     assert host.site.outcome("0.1.0") is None
     for wrong_name in ["", "0", "0.1", "0.1.0.0", "0.1.x", "256.1.0", "0.1.4294967296", "0.-1.0", "0.1. 0"]:
         try:
@@ -202,7 +211,7 @@ def what_is_asked():
 
 def limits():
     """What is at a limit is taken, and what is above it isn't. A journal at its limit opens under a higher one."""
-    assert polydb.version() == (0, 2, 0)
+    assert polydb.version() == (0, 3, 0)
     assert polydb.status_text(0) == "done" and polydb.status_text(27) == "the text is no program"
     assert polydb.status_text(5) is None and polydb.status_text(1 << 31) is None
     for sites, refusal in [(polydb.MAX_SITES, None), (polydb.MAX_SITES + 1, polydb.Malformed)]:

@@ -255,6 +255,17 @@ static void wait_for_journal(void) {
 
 /* ---- what is asked ---- */
 
+/* How many records a journal has: each stands behind an open gate, after its length in four bytes. */
+static uint32_t records_in(const uint8_t *journal) {
+    uint32_t count = 0;
+    size_t gate = sizeof POLYDB_EMPTY_JOURNAL - 1;
+    for (; journal[gate] == 1; count++) {
+        const uint8_t *length = journal + gate + 1;
+        gate += 5 + ((size_t)length[0] << 24 | (size_t)length[1] << 16 | (size_t)length[2] << 8 | (size_t)length[3]);
+    }
+    return count;
+}
+
 /* NULL with a length of 0 is an empty text, wherever a text is given. */
 static void no_texts(void) {
     static const uint8_t names[] = "sites 1\nitem a 0 100\n";
@@ -428,7 +439,7 @@ static void what_became(void) {
     uint64_t at = 99;
 
     CHECK(polydb_site_outcome(&site, 0, 1, 0, &outcome) == POLYDB_CLOSED && outcome == 0);
-    CHECK(polydb_site_info(&site, &info) == POLYDB_CLOSED && info.epoch == 0 && info.limit == 0);
+    CHECK(polydb_site_info(&site, &info) == POLYDB_CLOSED && info.epoch == 0 && info.limit == 0 && info.records == 0);
     CHECK(polydb_site_item(&site, 0, out, sizeof out, &written, &at) == POLYDB_CLOSED && written == 0 && at == 0);
 
     CHECK(polydb_site_open(&site, two, sizeof two - 1, 0, file, length) == POLYDB_DONE);
@@ -438,12 +449,13 @@ static void what_became(void) {
     CHECK(polydb_site_item(&site, 2, out, sizeof out, &written, &at) == POLYDB_NOTHING && written == 0 && at == 0);
     CHECK(polydb_site_item(&site, UINT64_MAX, out, sizeof out, &written, &at) == POLYDB_NOTHING);
 
-    CHECK(polydb_site_info(&site, &info) == POLYDB_DONE && info.stored == 9 && info.asked == 19 && info.limit == POLYDB_MAX_JOURNAL && info.epoch == 0);
+    CHECK(polydb_site_info(&site, &info) == POLYDB_DONE && info.stored == 9 && info.asked == 19 && info.limit == POLYDB_MAX_JOURNAL && info.epoch == 0 && info.records == 0);
     CHECK(polydb_site_submit(&site, PROGRAM, PROGRAM_LENGTH, false) == POLYDB_DONE);
     CHECK(outcome_of(&site, 1, 0) == 100 + POLYDB_UNWRITTEN);
     CHECK(polydb_site_outcome(&site, 1, 1, 0, &outcome) == POLYDB_NOT_HERE && outcome == 0);
     write_all(&site, file, sizeof file, &length);
     CHECK(polydb_site_info(&site, &info) == POLYDB_DONE && info.stored == info.asked && info.stored == length && info.epoch == 1);
+    CHECK(info.records == 1 && records_in(file) == 1);
     CHECK(outcome_of(&site, 1, 0) == POLYDB_AT_WORK);
     CHECK(outcome_of(&site, 1, 1) == 100 + POLYDB_NOTHING);
     CHECK(outcome_of(&site, 2, 0) == 100 + POLYDB_NOTHING);
@@ -465,6 +477,7 @@ static void what_became(void) {
     CHECK(outcome_of(&site, 1, 1) == POLYDB_NOT_COMMITTED);
     CHECK(outcome_of(&site, 2, 0) == 100 + POLYDB_NOTHING);
     CHECK(polydb_site_info(&site, &info) == POLYDB_DONE && info.epoch == 2);
+    CHECK(info.records == records_in(file) && info.records > 2);
     polydb_site_close(&site);
 }
 

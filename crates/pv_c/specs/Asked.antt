@@ -11,7 +11,7 @@ use Rattle.pv_c.specs.Status.{status_of, status_of_asked}
 -- what is told of a site, and zeroes of none
 abbrev pub info_of : Option SiteInfo → SiteInfo
 info_of (Some info) = info
-info_of None = record { stored = 0; asked = 0; limit = 0; epoch = 0 }
+info_of None = record { stored = 0; asked = 0; limit = 0; epoch = 0; records = 0 }
 
 -- The status and what is told are those of an answer of which this is true.
 abbrev pub InformedAs : ℕ → SiteInfo → (Option SiteInfo → Type 0) → Type 0

@@ -38,7 +38,7 @@ pub extern "C" fn polydb_site_item(
     numbers.status
 }
 
-/// How long the site's journal is, and its epoch.
+/// How long the site's journal is, its epoch, and how many records the journal has.
 #[unsafe(no_mangle)]
 pub extern "C" fn polydb_site_info(alloc: Global, site: &mut SiteSlot, info: &mut SiteInfo) -> u32
     ensures { InformedAs result info.new (Asks (λ old new info. (new ≡ old) × Informs old.hosted info) site.old.handle.site site.new.handle.site) }
@@ -83,6 +83,7 @@ fn info_of(answer: Option<SiteInfo>) -> SiteInfo
             asked: 0,
             limit: 0,
             epoch: 0,
+            records: 0,
         },
     }
 }

@@ -11,7 +11,6 @@ use Rattle.pv_base.specs.declared.limits.TheConstants.{MAX_REQUESTS}
 use Rattle.pv_model.specs.LiveScript as model
 use Rattle.pv_law_passing.specs.Asking.{asked_by}
 use Rattle.pv_mail.specs.declared.asked.Asker.{Asker}
-use Rattle.pv_rings.specs.Rings.{Each}
 use Rattle.pv_rings.proofs.EachLemmas.{get_or-any}
 use Rattle.pv_script.specs.LineView.{line_of}
 use Rattle.pv_script.specs.declared.live.Client.{Client}
@@ -57,7 +56,7 @@ module _ {W : Type 0} (box : SiteBox W) (place : ℕ) (worn : Bool) (to : worn �
   pub one-heard : (k : ℕ) (wish : Wish) (line told : ClientLine) → line.request ≡ k → IsSaid box.site.me worn (history_in box) (record { client = place; number = k }) line.what
       → IsLineFor box wish line told → IsTold box place k wish told
   one-heard k (Do request) line told is said same =
-      let heard_line = (is, heard (record { client = place; number = k }) line.what said, untold k line.what said) in
+      let heard_line : IsTold box place k (Do request) line = (is, heard (record { client = place; number = k }) line.what said, untold k line.what said) in
       subst (λ (one : ClientLine). IsTold box place k (Do request) one) (sym same) heard_line
   one-heard k (Peek number item) line told is said found = (found.0 ∙ is, found.1)
 

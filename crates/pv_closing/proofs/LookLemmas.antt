@@ -7,6 +7,7 @@ use Rattle.std.proofs.lemmas.Bool.{false≢true}
 use Rattle.std.specs.Prelude.{ℤ, IsTrue}
 use mathlib.Core.Logic.{dite}
 use native.Mathlib.Decide.{ℕ_discrete}
+use Rattle.pv_base.specs.Canonical.{canonical_cases}
 use Rattle.pv_base.specs.Catalog.{Declared, Item}
 use Rattle.pv_disk_model.specs.LogModel.{LogModel}
 use Rattle.pv_format.specs.Record.{epoch_begun}
@@ -15,11 +16,10 @@ use Rattle.pv_cell.specs.declared.site_box.SiteBox.{SiteBox}
 use Rattle.pv_law_histories.specs.Course.{course}
 use Rattle.pv_law_histories.specs.History.{Stamped}
 use Rattle.pv_law_histories.specs.Peeks.{reading_after, reading_in}
-use Rattle.pv_mail.specs.declared.asked.Asker.{Asker}
 use Rattle.pv_model.specs.LineCauses.{home_of}
 use Rattle.pv_protocol.specs.Lock.{is_home, is_of_site}
 use Rattle.pv_protocol.specs.Report.{Reading, cases, locked, down, reading_at, shown_unless_held}
-use Rattle.pv_protocol.specs.Shown.{declared_or_zero, declared_value, shown}
+use Rattle.pv_protocol.specs.Shown.{declared_or_zero, declared_value, shown, shown_within}
 use Rattle.pv_protocol.specs.State as state
 use Rattle.pv_protocol.specs.State.{Running}
 use Rattle.pv_protocol.specs.World.{first_site}
@@ -68,6 +68,7 @@ whole history = take_all (length history) history (omega arith)
 
 -- What a site shows of an item before anything was written.
 shown-first : (catalog : Declared) (item : ℕ) → shown catalog (epoch_begun 1 ∷ []) item ≡ record { when = []; value = declared_value catalog item } ∷ []
+unfolding canonical_cases shown_within
 shown-first catalog item = refl
 
 declared-is : (found : Option Item) (value : ℤ) → option_map (λ (declared : Item). declared.value) found ≡ Some value → declared_or_zero found ≡ value
@@ -136,7 +137,7 @@ module _ {W : Type 0} (box : SiteBox W) (place : ℕ) (wishes : List Wish) (said
         (λ asked. later ∙ ap (looked_after box) (has-more wishes j k (omega (arith, less)) asked));
     behind = λ j k any one peek less within is also line stands.
         let inside : k < length wishes = omega (arith, within, looked.count, long) in
-        let any_wish = wish.Peek 0 (record { 0 = 0 }) in
+        let any_wish : Wish = wish.Peek 0 (record { 0 = 0 }) in
         let request = line-of_request (get_or wishes j any_wish) (get_or said j any) (get_or lines j any) one is (looked.told j any_wish any (omega (arith, less, inside))) in
         let all_asked = asked-at wishes j k any_wish request.0 less (omega (arith, less, inside)) request.1 in
         let steps : peek.steps ≡ length (history_in box) = looked.steps k any peek inside also ∙ ap (looked_after box) all_asked in

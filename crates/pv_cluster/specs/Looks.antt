@@ -1,5 +1,5 @@
 -- Boxes whose rings were looked at with both ends.
-use Rattle.std.specs.Prelude.{◌≡◌, ◌⊎◌, ℕ, ◌<◌, List, All, length, map, take, get_or}
+use Rattle.std.specs.Prelude.{◌≡◌, ◌⊎◌, ℕ, ◌<◌, List, All, length, take, get_or}
 use mathlib.Core.List.{Sublist}
 use Rattle.pv_cell.specs.Box.{IsWorn}
 use Rattle.pv_cell.specs.Lending.{AreStill, with_ends}

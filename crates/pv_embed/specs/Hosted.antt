@@ -1,5 +1,5 @@
 -- What a site with a host is, and what its steps make of it.
-use Rattle.std.specs.Prelude.{◌≡◌, ℕ, List, ◌++◌, Option, Some, Result, Ok, Err, map, All}
+use Rattle.std.specs.Prelude.{◌≡◌, ℕ, List, ◌++◌, length, Option, Some, Result, Ok, Err, map, All}
 use Rattle.pv_disk_model.specs.Size.{size_of}
 use Rattle.pv_protocol.specs.State as model
 use Rattle.pv_protocol.specs.Step.{step_on}
@@ -24,6 +24,10 @@ log_length hosted = size_of (contents_of hosted.site.log)
 
 abbrev pub stored_length : HostedState → ℕ
 stored_length hosted = size_of hosted.site.log.stored
+
+-- how many records are in the host's file, by what the host has told: the first of those that the site's log has
+abbrev pub stored_records : HostedState → ℕ
+stored_records hosted = length hosted.site.log.stored
 
 -- What the step makes is held until the log of now is in the file.
 abbrev pub held_after : HostedState → List Held → model.Step → List Held

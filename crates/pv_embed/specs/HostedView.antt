@@ -1,5 +1,5 @@
 -- What the fields of a site with a host say.
-use Rattle.std.specs.Prelude.{◌≡◌, ◌≢◌, ◌≤◌, ◌<◌, [], Some, All}
+use Rattle.std.specs.Prelude.{◌≡◌, ◌≢◌, ◌≤◌, ◌<◌, [], Some, All, length}
 use Rattle.std.specs.List.{flat_map}
 use Rattle.pv_disk_model.specs.Size.{size_of}
 use Rattle.pv_protocol.specs.State.{Running}
@@ -22,6 +22,7 @@ pub record IsHosted (inside : Inside) : Type 0 where
   pub site : inside.me.0 < inside.catalog.sites
   pub catalog : inside.site.catalog ≡ inside.catalog
   pub stored : inside.stored ≡ size_of inside.site.log.stored
+  pub records : inside.records ≡ length inside.site.log.stored
   pub some : All (λ made. outputs_of inside.me.0 made ≢ []) inside.made.items
   pub no_longer : All (λ made. made.length ≤ log_length (hosted_of inside)) inside.made.items
   pub spelled : AreSpelled (hosted_of inside).held

@@ -14,7 +14,7 @@ ghost use Rattle.pv_host.specs.HostLog.{HostState, contents_of, least_write, nex
 ghost use Rattle.pv_host.specs.HostWrites.{write_of};
 ghost use Rattle.pv_embed.specs.Opening.{IsUnread, OpensHosted, RefusesContents};
 ghost use Rattle.pv_embed.specs.Held.{Held};
-ghost use Rattle.pv_embed.specs.Hosted.{AsksForGroup, Gives, TakesNext, Writes, stored_length};
+ghost use Rattle.pv_embed.specs.Hosted.{AsksForGroup, Gives, TakesNext, Writes, stored_length, stored_records};
 ghost use Rattle.pv_embed.specs.Outputs.{IsSpelled, out_of};
 ghost use Rattle.pv_embed.specs.Requests.{Begins, ReceivesBy, SubmitsBy, ReadsBy};
 
@@ -51,8 +51,11 @@ pub struct HostedSite {
     catalog: Catalog,
     /// The site.
     site: Site<HostLog>,
-    /// How much of its journal is in the file. The log has this number too, but the site lends its log only to be changed, and a reading changes nothing.
+    /// How much of its journal is in the file, in bytes. The log has this number too, and the next one, but the site lends its log only to be changed, and a reading
+    /// changes nothing.
     stored: u64,
+    /// How many records are in the file.
+    records: u64,
     /// What its steps made that wasn't let out, the oldest first. In each there is something.
     made: VecDeque<Made>,
 }
@@ -123,6 +126,7 @@ impl HostedSite {
             Err(LookError::Failed) => unreachable!(),
         };
         let stored = log.stored();
+        let records = log.records();
         match Site::open(alloc, log, me, &catalog) {
             Ok(site) => Ok(HostedSite {
                 alloc,
@@ -130,6 +134,7 @@ impl HostedSite {
                 catalog,
                 site,
                 stored,
+                records,
                 made: VecDeque::new(alloc),
             }),
             Err(error) => Err(fault_of(error)),
@@ -242,7 +247,9 @@ impl HostedSite {
         let log = self.site.log();
         log.written();
         let stored = log.stored();
+        let records = log.records();
         self.stored = stored;
+        self.records = records;
     }
 
     /// The next thing that the site lets out, if there is one: the host's file has all that the log had when it was made. It comes in the order of the steps,
@@ -290,6 +297,13 @@ impl HostedSite {
         ensures { result ≡ stored_length self.now }
     {
         self.stored
+    }
+
+    /// How many records are in the host's file, by what the host has told. The cost is bounded by a constant.
+    pub fn records(&self) -> u64
+        ensures { result ≡ stored_records self.now }
+    {
+        self.records
     }
 
     /// Its number.

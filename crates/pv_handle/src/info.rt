@@ -12,4 +12,7 @@ pub struct SiteInfo {
     pub limit: u64,
     /// The epoch in which the site was opened, or 0 while something is to be written: a crash may undo it.
     pub epoch: u32,
+    /// How many records are in the host's file, by what the host has told; or [`u32::MAX`] where there are more, for which no journal within
+    /// [`MAX_JOURNAL`](pv_base::MAX_JOURNAL) has room.
+    pub records: u32,
 }

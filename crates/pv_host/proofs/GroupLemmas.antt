@@ -152,31 +152,33 @@ pub fitting-nothing : (contents : Contents) → fitting 0 contents ≡ []
 fitting-nothing [] = refl
 fitting-nothing (first ∷ later) = (fitting-none 0 first later (omega arith)).0
 
--- So many of the records are in the group for sure, and it goes on with those of the others that have the rest of the room.
-pub record IsGroupSoFar (room : ℕ) (pending : Contents) (size : ℕ) (asked left : Contents) : Type 0 where
+-- So many bytes of the records, and so many records, are in the group for sure, and it goes on with those of the others that have the rest of the room.
+pub record IsGroupSoFar (room : ℕ) (pending : Contents) (size count : ℕ) (asked left : Contents) : Type 0 where
   pub all : pending ≡ asked ++ left
   pub some : asked ≢ []
   pub size_is : size ≡ length (records_of asked)
+  pub count_is : count ≡ length asked
   pub group : group_of room pending ≡ asked ++ fitting (room - size) left
   pub rest : left_of room pending ≡ beyond (room - size) left
 
-pub first-grouped : (room : ℕ) (first : List ℕ) (later : Contents) → IsGroupSoFar room (first ∷ later) (5 + length first) (first ∷ []) later
+pub first-grouped : (room : ℕ) (first : List ℕ) (later : Contents) → IsGroupSoFar room (first ∷ later) (5 + length first) 1 (first ∷ []) later
 first-grouped room first later = record {
   all = refl;
   some = λ is. cc;
   size_is = omega (arith, length-framed first, length-append (record_of first) []);
+  count_is = refl;
   group = refl;
   rest = refl;
 }
 
-module _ (room : ℕ) (pending : Contents) (size : ℕ) (asked left : Contents) (so_far : IsGroupSoFar room pending size asked left) where
+module _ (room : ℕ) (pending : Contents) (size count : ℕ) (asked left : Contents) (so_far : IsGroupSoFar room pending size count asked left) where
   pub grouped-rest : drop size (behind_gate_of pending) ≡ behind_gate_of left
   grouped-rest =
       ap (λ (n : ℕ). drop n (behind_gate_of pending)) so_far.size_is ∙ ap (λ (l : Contents). drop (length (records_of asked)) (behind_gate_of l)) so_far.all
       ∙ behind-left asked left so_far.some
 
   pub one-more-grouped : (first : List ℕ) (later : Contents) → left ≡ first ∷ later → size + (5 + length first) ≤ room
-      → IsGroupSoFar room pending (size + (5 + length first)) (asked ++ first ∷ []) later
+      → IsGroupSoFar room pending (size + (5 + length first)) (count + 1) (asked ++ first ∷ []) later
   one-more-grouped first later is fits =
       let more = fitting-more (room - size) first later (omega (arith, fits)) in
       let less : room - size - (5 + length first) ≡ room - (size + (5 + length first)) = omega arith in
@@ -192,6 +194,7 @@ module _ (room : ℕ) (pending : Contents) (size : ℕ) (asked left : Contents) 
               length-append (record_of first) [],
               length-framed first,
             );
+        count_is = omega (arith, so_far.count_is, length-append asked (first ∷ []));
         group =
             so_far.group ∙ ap (λ (l : Contents). asked ++ fitting (room - size) l) is ∙ ap (λ (l : Contents). asked ++ l) more.0
             ∙ ap (λ (n : ℕ). asked ++ first ∷ fitting n later) less ∙ sym (append_assoc asked (first ∷ []) (fitting (room - (size + (5 + length first))) later));

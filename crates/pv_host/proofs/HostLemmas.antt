@@ -38,11 +38,20 @@ pub size_of-one : (contents : Contents) (content : List ℕ) → size_of (conten
 size_of-one contents content =
     omega (arith, sum_by-append (λ (c : List ℕ). 5 + length c) contents (content ∷ []), sum_by-cons (λ (c : List ℕ). 5 + length c) content [])
 
+-- A log has more bytes than records, so neither what is stored nor what is asked for is more than there is room to count.
+size_of-more : (contents : Contents) → length contents ≤ size_of contents
+size_of-more [] = omega arith
+size_of-more (first ∷ later) = omega (arith, size_of-more later, sum_by-cons (λ (c : List ℕ). 5 + length c) first later)
+
+pub records_within : (stored asked pending : Contents) → length stored + length asked ≤ size_of (stored ++ (asked ++ pending))
+records_within stored asked pending =
+    omega (arith, size_of-more (stored ++ (asked ++ pending)), length-append stored (asked ++ pending), length-append asked pending)
+
 -- The gate after what is stored lies within the log, and so do the records after it.
 pub end_within : (stored others : Contents) → end_of stored + 1 ≤ size_of (stored ++ others)
 end_within stored others = omega (arith, size_of-join stored others, end_of-size stored)
 
-pub ruleset ends = (end_within, end_of-size, size_of-one)
+pub ruleset ends = (end_within, end_of-size, size_of-one, records_within)
 
 -- At each moment of an append a crash leaves the contents from before, or these with the new one.
 pub pushed_moments : (old new : HostState) (content : List ℕ) (was : Contents) → contents_of new ≡ contents_of old ++ content ∷ [] → Some (contents_of old) ≡ Some was

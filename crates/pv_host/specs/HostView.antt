@@ -1,5 +1,5 @@
 -- What the fields of a log say whose journal a host writes.
-use Rattle.std.specs.Prelude.{◌≡◌, ◌≤◌, [], false, is_none, map, IfSome, ◌++◌}
+use Rattle.std.specs.Prelude.{◌≡◌, ◌≤◌, [], false, is_none, length, map, IfSome, ◌++◌}
 use Rattle.std.specs.List.{flat_map}
 use Rattle.pv_base.specs.declared.limits.TheConstants.{MAX_JOURNAL, MAX_LENGTH}
 use Rattle.pv_disk_model.specs.Size.{size_of}
@@ -22,6 +22,8 @@ log_of inside = record {
 
 -- The numbers are those of the contents, and what isn't read yet is all of them.
 pub record IsHostLog (inside : Inside) : Type 0 where
+  pub records_are : inside.records ≡ length (log_of inside).stored
+  pub group_is : inside.group ≡ length (log_of inside).asked
   pub end_is : inside.end ≡ end_of (log_of inside).stored
   pub length_is : inside.length ≡ size_of (contents_of (log_of inside))
   pub bounded : inside.length ≤ MAX_LENGTH

@@ -1,3 +1,4 @@
+pub mod GroupSize
 pub mod HostFile
 pub mod HostLaws
 pub mod HostLog

@@ -42,7 +42,11 @@ pub struct HostLog {
     waiting: Waiting,
     /// Whether the group stands in the file, and the gate before it is next.
     behind_gate: bool,
-    /// The place of the gate before it.
+    /// How many records the group has.
+    group: u64,
+    /// How many records the host has told to be in the file.
+    records: u64,
+    /// The place of the gate after them.
     end: u64,
     /// How long the log is, in bytes.
     length: u64,
@@ -99,6 +103,8 @@ impl HostLog {
         Ok(HostLog {
             waiting: Waiting::new(alloc),
             behind_gate: false,
+            group: 0,
+            records: contents.len() as u64,
             end: length - 1,
             length,
             limit,
@@ -117,7 +123,7 @@ impl HostLog {
         ensures keeps { contents_of self.new ≡ contents_of self.old }
     {
         if !self.waiting.has_group() {
-            self.waiting.ask(room);
+            self.group = self.waiting.ask(room);
         }
     }
 
@@ -165,6 +171,8 @@ impl HostLog {
             return;
         }
         self.behind_gate = false;
+        self.records += self.group;
+        self.group = 0;
         self.end += self.waiting.group().len() as u64;
         self.stored = self.stored.and(&self.waiting);
         self.waiting.drop_group();
@@ -176,6 +184,13 @@ impl HostLog {
         ensures { result ≡ size_of self.now.stored }
     {
         self.end + 1
+    }
+
+    /// How many records the journal in the host's file has, by what the host has told. The cost is bounded by a constant.
+    pub fn records(&self) -> u64
+        ensures { result ≡ length self.now.stored }
+    {
+        self.records
     }
 }
 

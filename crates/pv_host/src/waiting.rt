@@ -2,8 +2,9 @@
 ghost use Rattle.std.specs.Prelude.{◌≡◌, ◌≢◌, ◌≤◌, ◌<◌, ◌+◌, ◌-◌, ◌^◌, ◌++◌, ◌∷◌, [], true, false, List, ℕ, length, drop, set, vec_len, vec_capacity, OnOk};
 ghost use Rattle.pv_base.specs.BigEndian.{big_endian};
 ghost use Rattle.pv_disk_model.specs.Size.{Contents};
-ghost use Rattle.pv_format.specs.Journal.{framed, records_of};
+ghost use Rattle.pv_format.specs.Journal.{framed};
 ghost use Rattle.pv_host.specs.HostLog.{behind_gate_of, group_of, left_of};
+ghost use Rattle.pv_host.specs.GroupSize.{IsSizeOf};
 ghost use Rattle.pv_host.specs.Waiting.{AreRecords, first_length};
 
 use byteorder::{BigEndian, ByteOrder};
@@ -76,17 +77,19 @@ impl Waiting {
         Some(record_length(others))
     }
 
-    /// Where there is no group, the first records become one: as many as have so much room, and one at least.
-    pub(crate) fn ask(&mut self, room: usize)
+    /// Where there is no group, the first records become one: as many as have so much room, and one at least. Gives how many the group has.
+    pub(crate) fn ask(&mut self, room: usize) -> u64
         requires { self.old.asked ≡ [] }
-        ensures { self.new ≡ record self.old { asked = group_of room self.old.pending; pending = left_of room self.old.pending } }
+        ensures asks { self.new ≡ record self.old { asked = group_of room self.old.pending; pending = left_of room self.old.pending } }
+        ensures count { result ≡ length self.new.asked }
     {
         if self.bytes.is_empty() {
-            return;
+            return 0;
         }
-        let length = group_length(&self.bytes, room);
-        close_gate(&mut self.bytes, length - 1);
-        self.frozen = length;
+        let size = group_size(&self.bytes, room);
+        close_gate(&mut self.bytes, size.bytes - 1);
+        self.frozen = size.bytes;
+        size.count
     }
 
     /// The group waits no longer.
@@ -118,28 +121,40 @@ impl Waiting {
     }
 }
 
-// How many bytes the first of these records take that have so much room, and one at least.
-fn group_length(records: &[u8], room: usize) -> usize
+// How large a group is.
+#[derive(Clone, Copy)]
+pub(crate) struct GroupSize {
+    // How many bytes its records take.
+    bytes: usize,
+    // How many records they are.
+    count: u64,
+}
+
+// How large the group is of the first of these records that have so much room, and one at least.
+fn group_size(records: &[u8], room: usize) -> GroupSize
     requires are { (contents : Contents) × AreRecords contents records.now }
     requires some { 0 < length records.now }
-    ensures { (contents : Contents) → AreRecords contents records.now → result ≡ length (records_of (group_of room contents)) }
+    ensures { (contents : Contents) → AreRecords contents records.now → IsSizeOf (group_of room contents) result }
 {
-    let mut length = record_length(records);
-    while length < records.len() {
-        let (_, rest) = records.split_at(length);
-        let more = length + record_length(rest);
+    let mut bytes = record_length(records);
+    let mut count = 1;
+    while bytes < records.len() {
+        let (_, rest) = records.split_at(bytes);
+        let more = bytes + record_length(rest);
         if room < more {
-            return length;
+            return GroupSize { bytes, count };
         }
-        length = more;
+        bytes = more;
+        count += 1;
     }
-    length
+    GroupSize { bytes, count }
 }
 
 // How long the record is that comes first, with the gate after it.
 fn record_length(records: &[u8]) -> usize
     requires { 4 ≤ length records.now }
     ensures length { (content more : List ℕ) → records.now ≡ framed content ++ more → length content < 2 ^ 32 → result ≡ 5 + length content }
+    ensures least { 5 ≤ result }
     ensures bounded { result < 2 ^ 33 }
 {
     let (number, _) = records.split_at(4);

@@ -45,3 +45,20 @@ fn one_record_has_always_room(rt: HostRuntime) -> Result<(), Fail> {
     assert_eq!(rt; write.bytes, b"\0\0\0\x02ab\0".as_slice());
     Ok(())
 }
+
+#[test]
+fn records_count_once_their_gate_is_open(rt: HostRuntime) -> Result<(), Fail> {
+    let alloc = rt.alloc();
+    let mut log = HostLog::open(alloc, b"PVJRNL01\x01\0\0\0\x01a\0".to_vec(alloc)?, 64)?;
+    assert_eq!(rt; log.records(), 1);
+    log.reserve(2)?;
+    log.append(b"ab")?;
+    log.reserve(3)?;
+    log.append(b"cde")?;
+    log.ask(15);
+    log.written();
+    assert_eq!(rt; log.records(), 1);
+    log.written();
+    assert_eq!(rt; log.records(), 3);
+    Ok(())
+}

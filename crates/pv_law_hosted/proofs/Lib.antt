@@ -12,6 +12,7 @@ mod GivesLemmas
 mod GoesLemmas
 mod GrownLemmas
 mod HappensLemmas
+mod KilledLemmas
 mod MirroredLemmas
 mod NarrowLemmas
 mod NumberEvents
@@ -29,5 +30,6 @@ mod SplitLemmas
 mod StoreLemmas
 mod TakesLemmas
 mod TimeLemmas
+mod WalkedLemmas
 mod WithinLemmas
 mod WorkedLemmas

@@ -11,7 +11,7 @@ use Rattle.pv_embed.specs.Opening.{HasOpenedOn}
 use Rattle.pv_format.specs.Contents.{SpellRecords, greatest_epoch}
 use Rattle.pv_format.specs.Journal.{IsJournal, end_of}
 use Rattle.pv_format.specs.Message.{lock}
-use Rattle.pv_format.specs.Record.{Record}
+use Rattle.pv_format.specs.Record.{Record, epoch_begun}
 use Rattle.pv_format.specs.RecordSpelling.{IsReadAs}
 use Rattle.pv_host.specs.HostLaws.{host_model}
 use Rattle.pv_host.specs.HostLog.{HostState, contents_of}
@@ -21,7 +21,7 @@ use Rattle.pv_law_hosted.proofs.WorkedLemmas.{found-journal, one-epoch, spelled-
 use Rattle.pv_law_hosted.specs.Deployment.{Deployment, station_at}
 use Rattle.pv_law_hosted.specs.DeploymentEvents.{Happens, Stands, request, takes}
 use Rattle.pv_law_hosted.specs.Mirrored.{IsMirrored}
-use Rattle.pv_law_hosted.specs.Worked.{asked_by, asked_log, asking, begun, begun_records, catalog, config, first_epoch, found_file, killed, number, numbered, numbering, opened_again, program, requested, requests, sent, stored, stored_log, wants, writing}
+use Rattle.pv_law_hosted.specs.Worked.{asked_by, asked_log, asking, begun, begun_records, catalog, config, first_epoch, found, found_again, found_file, found_records, killed, number, numbered, numbering, opened_again, program, requested, requests, sent, stored, stored_log, wants, writing}
 use Rattle.pv_model.specs.Check.{names_item}
 use Rattle.pv_model.specs.Events.{Event}
 use Rattle.pv_model.specs.Plan.{plan_of}
@@ -142,19 +142,30 @@ kills = going-happens config catalog numbered 0 (asked_by []) (record { known = 
 pub opens-again : (site : HostedState) → HasOpenedOn config 0 found_file site → Stands site → Happens config catalog killed (opened_again site)
 opens-again site opened stands = opening-happens config catalog killed 0 site (omega arith) refl stands opened
 
+pub finds-again : (site : HostedState) → HasOpenedOn config 0 found_file site → Stands site → Happens config catalog found (found_again site)
+finds-again site opened stands = opening-happens config catalog found 0 site (omega arith) refl stands opened
+
 -- ## The next epoch
 module _ (one_record : (entry other : Record) (bytes : List ℕ) → IsReadAs entry bytes → IsReadAs other bytes → entry ≡ other)
     (one_journal : (bytes : List ℕ) (contents others : Contents) → IsJournal contents bytes → IsJournal others bytes → contents ≡ others) where
-  pub second-epoch : (site : HostedState) → HasOpenedOn config 0 found_file site → site.site.epoch ≡ 2
-  second-epoch site o =
+  found-read : (site : HostedState) (o : HasOpenedOn config 0 found_file site) → o.opened.records ≡ begun_records
+  found-read site o =
       let stored : o.log.stored ≡ first_epoch ∷ [] = one_journal found_file o.log.stored (first_epoch ∷ []) o.opened_on.journal found-journal in
       let all : contents_of o.log ≡ o.log.stored ++ ([] ++ []) = ap₂ (λ (asked pending : Contents). o.log.stored ++ (asked ++ pending)) o.opened_on.asked o.opened_on.pending in
       let read : o.opened.contents ≡ first_epoch ∷ [] =
       o.opened.read (contents_of o.log) refl ∙ all ∙ ap (λ (l : Contents). l ++ ([] ++ [])) stored in
-      let records : o.opened.records ≡ begun_records = one-epoch one_record one_journal o.opened.records (subst (SpellRecords o.opened.records) read o.opened.spelled) in
-      ap (λ (s : SiteState HostState). s.epoch) o.opened.site
-      ∙ (opened-after config 0 found_file site o).recorded
-      ∙ ap (λ (l : List Record). greatest_epoch l + 1) records
+      one-epoch one_record one_journal o.opened.records (subst (SpellRecords o.opened.records) read o.opened.spelled)
+
+  begun-then : (site : HostedState) (o : HasOpenedOn config 0 found_file site) → o.opened.epoch ≡ 2
+  begun-then site o = (opened-after config 0 found_file site o).recorded ∙ ap (λ (l : List Record). greatest_epoch l + 1) (found-read site o)
+
+  pub second-epoch : (site : HostedState) → HasOpenedOn config 0 found_file site → site.site.epoch ≡ 2
+  second-epoch site o = ap (λ (s : SiteState HostState). s.epoch) o.opened.site ∙ begun-then site o
+
+  pub second-records : (site : HostedState) → HasOpenedOn config 0 found_file site → site.site.records ≡ found_records
+  second-records site o =
+      ap (λ (s : SiteState HostState). s.records) o.opened.site
+      ∙ ap₂ (λ (records : List Record) (epoch : ℕ). records ++ epoch_begun epoch ∷ []) (found-read site o) (begun-then site o)
 
 -- ## What the law says of it
 module _ (goes_on : (d later : Deployment) (events : List Event) → IsMirrored (setup_of catalog) d events → Happens config catalog d later

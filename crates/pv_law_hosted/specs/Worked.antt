@@ -96,6 +96,14 @@ writing = record { file = written_file; hosted = Some (begun (asked_log true)); 
 abbrev pub found : Deployment
 found = record { file = found_file; hosted = None; let_out = []; asked = [] } ∷ []
 
+-- a process of this site on the file that was left
+abbrev pub found_again : HostedState → Deployment
+found_again site = record { file = found_file; hosted = Some site; let_out = []; asked = [] } ∷ []
+
+-- the record that it finds, and that of its own epoch
+abbrev pub found_records : List Record
+found_records = begun_records ++ epoch_begun 2 ∷ []
+
 -- ## A request
 -- `return a`, the number that it gets, and the locks that it wants
 abbrev pub program : Program

@@ -104,11 +104,16 @@ pub fn deployments_are_runs()
 /// - At first each file is a journal without records and no process is there ([`deployments_are_runs`]), and each configuration declares the one catalog.
 ///
 /// [`HostedSite::stands_ready`](pv_embed::HostedSite::stands_ready) shows that the site stands after a call. Before it, it has its number, its catalog and what
-/// stands ready, since the deployment is mirrored (`has`). A reading changes nothing, nor does a question what is to be written of what was asked for. `gave` is `took` for who
+/// stands ready, since the deployment is mirrored (`has`). Where a configuration has grown no run goes on; there it has its number and the catalog of its process from its opening on
+/// (`has_opened`), whatever happens then (`keeps`). A reading changes nothing, nor does a question what is to be written of what was asked for. `gave` is `took` for who
 /// gives as bytes what is let out.
 pub fn calls_happen()
     ensures has { (catalog : Declared) (d : Deployment) (events : List Event) (n : ℕ) (site : HostedState) → IsMirrored (setup_of catalog) d events → n < catalog.sites →
         (station_at d n).hosted ≡ Some site → HasSite catalog d n site × Stands site }
+    ensures has_opened { (config file : List ℕ) (schedule : Schedule) (d : Deployment) (n : ℕ) (site : HostedState) → Configures config schedule →
+        HasOpenedOn config n file site → (station_at d n).hosted ≡ Some site → HasSite schedule.catalog d n site }
+    ensures keeps { (config : List ℕ) (catalog other : Declared) (d later : Deployment) (n : ℕ) (site next : HostedState) → HasSite catalog d n site →
+        Happens config other d later → (station_at later n).hosted ≡ Some next → HasSite catalog later n next }
     ensures submitted { (config : List ℕ) (catalog : Declared) (d : Deployment) (n : ℕ) (site next : HostedState)
         (text : List ℕ) (query : Bool) (result : Result ⊤ SubmitFault) → HasSite catalog d n site → Stands next → SubmitsBy site next text query result →
         (asked : List Asked) × BeginsAsked catalog site next text result asked ×
@@ -154,6 +159,7 @@ pub fn calls_happen()
 {
     some_items();
     one_journal();
+    one_schedule();
 }
 
 /// What holds of a deployment that a run mirrors:
@@ -233,11 +239,13 @@ pub fn hosted_requests_end_once()
 
 /// What a site has told to have committed stays so, whatever becomes of the site then: calls, crashes and openings, each under whatever configuration. So it does as a configuration
 /// grows, where no run goes on. It is a law of one site alone, since the records on which it tells so are in its file, and a file is only added to (`goes_on`, from a mirrored deployment
-/// on, `mirrored`): each later site of that number has a record that says so (`kept`). So where it tells of the transaction again, it tells that it has committed (`told`), and not that
+/// on, `mirrored`). What happens in a deployment, by whatever catalog, is something that becomes of each of its stations (`walked`): so calls are walked here too as [`calls_happen`] has them. Each later site of that number has a record that says so (`kept`). So where it tells of the transaction again, it tells that it has committed (`told`), and not that
 /// its number may still be given (`begun`).
 pub fn told_commits_are_kept()
     ensures mirrored { (setup : Setup) (d : Deployment) (events : List Event) (n : ℕ) → IsMirrored setup d events → n < setup.catalog.sites → HasFile (station_at d n) }
     ensures goes_on { (n : ℕ) (first last : Station) → HasFile first → GoesOn n first last → HasFile last }
+    ensures walked { (config : List ℕ) (catalog : Declared) (d later : Deployment) (n : ℕ) (last : Station) → Happens config catalog d later →
+        GoesOn n (station_at later n) last → GoesOn n (station_at d n) last }
     ensures kept { (n : ℕ) (first last : Station) (site new later : HostedState) (txn : TxnId) → HasFile first → first.hosted ≡ Some site →
         TellsOutcome site new txn (Ok Committed) → GoesOn n first last → last.hosted ≡ Some later → known later.site.records txn ≡ Some true }
     ensures told { (n : ℕ) (first last : Station) (site new later again : HostedState) (txn : TxnId) (outcome : Outcome) → HasFile first → first.hosted ≡ Some site →
@@ -376,8 +384,8 @@ pub fn hosted_sites_tell_one_outcome()
 }
 
 /// A transaction that commits has had its number let out, by the site that has begun it (`committed`); and behind the number that site has let out a message that asks for a vote
-/// on the transaction (`asked`). So a host that keeps the number of each request as it takes it, before it takes anything more, has the number of whatever commits, also where it
-/// is killed between the two: what isn't committed as its process goes never is, since nobody works on it then. From a new deployment on (`new`), whatever happens in it
+/// on the transaction (`asked`). So a host that keeps the number of each request as it takes it, before it takes anything more, has the number of whatever commits. Where its process
+/// has gone between the two, so that the number was let out and no message behind it that asks for a vote, the transaction hasn't committed and never will (`killed`). From a new deployment on (`new`), whatever happens in it
 /// (`event`), the number stands before whatever asks for a vote on the transaction, since one process makes both.
 pub fn commits_have_their_numbers_out()
     ensures new { (catalog : Declared) (d : Deployment) → IsNew catalog d → AreNumbersFirst (setup_of catalog) d }
@@ -387,18 +395,28 @@ pub fn commits_have_their_numbers_out()
         IsTrue (is_committed (world_of setup events) txn) → IsAskedAfter txn (station_at d (home_of txn)).let_out }
     ensures committed { (setup : Setup) (d : Deployment) (events : List Event) (txn : TxnId) → IsMirrored setup d events → AreNumbersFirst setup d →
         IsTrue (is_committed (world_of setup events) txn) → Contains (station_at d (home_of txn)).let_out (note (began txn)) }
+    ensures killed { (setup : Setup) (d : Deployment) (events more : List Event) (n : ℕ) (txn : TxnId) → IsMirrored setup d events → AreNumbersFirst setup d →
+        n < setup.catalog.sites → (station_at d n).hosted ≡ None → Contains (station_at d n).let_out (note (began txn)) →
+        (IsAskedAfter txn (station_at d n).let_out → ⊥) → All (IsWellFormed setup.catalog) (events ++ more) → IsOut txn (world_of setup (events ++ more)) }
 {
     files_are_journals();
     files_hold_what_was_let_out();
+    hosted_sites_agree();
+    mirrored_deployments_agree();
     one_journal();
     one_record();
+    runs_are_reached();
+    epochs_are_recorded();
+    memories_are_in_order();
+    outcomes_are_for_ever();
 }
 
 /// A deployment of one site, computed, so that the laws above don't speak of nothing. The site is opened on a new file, and its process goes before anything is written
 /// (`opened`, `died`): that leaves the deployment as it was, in which no process was yet. The site is opened anew, in the same epoch; its host asks what to write (`asked`),
 /// writes the epoch's record behind the gate and says so (`wrote`). Then the gate is opened in the file, and the process goes before its host has said so (`found`).
 ///
-/// A run mirrors it, and the site of that run has the record that was found and never said to be written, and is down (`mirrored`).
+/// A run mirrors it, and the site of that run has the record that was found and never said to be written, and is down (`mirrored`). And another process that opens the site finds
+/// it (`reopened`): its site goes on from it, in the second epoch (`records`).
 pub fn a_record_is_found()
     ensures configured { Configures worked.config worked.schedule }
     ensures new { IsNew worked.catalog worked.fresh }
@@ -410,6 +428,9 @@ pub fn a_record_is_found()
     ensures mirrored { (events : List Event) × IsMirrored (setup_of worked.catalog) worked.found events ×
         ((site_at (world_of (setup_of worked.catalog) events) 0).records ≡ worked.begun_records) ×
         ((site_at (world_of (setup_of worked.catalog) events) 0).running ≡ None) }
+    ensures reopened { (site : HostedState) → HasOpenedOn worked.config 0 worked.found_file site → Stands site →
+        Happens worked.config worked.catalog worked.found (worked.found_again site) }
+    ensures records { (site : HostedState) → HasOpenedOn worked.config 0 worked.found_file site → site.site.records ≡ worked.found_records }
 {
     deployments_are_runs();
     mirrored_deployments_agree();

@@ -113,4 +113,5 @@ module _ (line : TextLine) where
   declares-bare before after kind (inr (inr (inl item))) = inr (inr (inl (item-bare before after item)))
   declares-bare before after kind (inr (inr (inr (inl plan)))) = absurd (not-live before kind plan.kind)
   declares-bare before after kind (inr (inr (inr (inr (inl client))))) = absurd (not-live before kind client.kind)
-  declares-bare before after kind (inr (inr (inr (inr (inr request))))) = absurd (not-live before kind request.kind)
+  declares-bare before after kind (inr (inr (inr (inr (inr (inl request)))))) = absurd (not-live before kind request.kind)
+  declares-bare before after kind (inr (inr (inr (inr (inr (inr peek)))))) = absurd (not-live before kind peek.kind)

@@ -52,8 +52,10 @@ declared-stays before after line sites told begun (inr (inr (inl item))) = absur
 declared-stays before after line sites told begun (inr (inr (inr (inl plan)))) = absurd (false≢true (sym plan.early ∙ begun))
 declared-stays before after line sites told begun (inr (inr (inr (inr (inl client))))) =
     subst (Stays sites before) (sym client.same) (record { catalog = refl; begun = refl; said = told })
-declared-stays before after line sites told begun (inr (inr (inr (inr (inr request))))) =
+declared-stays before after line sites told begun (inr (inr (inr (inr (inr (inl request)))))) =
     subst (Stays sites before) (sym request.same) (record { catalog = refl; begun = begun; said = told })
+declared-stays before after line sites told begun (inr (inr (inr (inr (inr (inr peek)))))) =
+    subst (Stays sites before) (sym peek.same) (record { catalog = refl; begun = begun; said = told })
 
 catalog-stays : {before last : Before} {ls : List TextLine} {events : List Event} → AreLines before ls events last → (sites : ℕ)
     → before.sites ≡ Some sites → before.begun ≡ true → declared_by before ≡ declared_by last
@@ -71,7 +73,8 @@ declares-text before after line (inr (inl x)) = x.text
 declares-text before after line (inr (inr (inl x))) = x.text
 declares-text before after line (inr (inr (inr (inl x)))) = x.text
 declares-text before after line (inr (inr (inr (inr (inl x))))) = x.text
-declares-text before after line (inr (inr (inr (inr (inr x))))) = x.text
+declares-text before after line (inr (inr (inr (inr (inr (inl x)))))) = x.text
+declares-text before after line (inr (inr (inr (inr (inr (inr x)))))) = x.text
 
 -- ---- all of it
 

@@ -7,7 +7,7 @@ use Rattle.pv_base.proofs.Basics.{Some_inj}
 use Rattle.pv_model.specs.Events.{Event}
 use Rattle.pv_model.specs.LineCauses.{Before, at_first, declared_by, last_requests, or_default}
 use Rattle.pv_model.specs.LineForms.{live}
-use Rattle.pv_model.specs.LiveScript.{Client, LiveScript, Request, Wish, to_ask, to_peek}
+use Rattle.pv_model.specs.LiveScript.{Client, LiveScript, Wish, to_ask, to_peek}
 use Rattle.pv_model.specs.Schedule.{AreLines, none, declaration, event, Declares, DeclaresClient, DeclaresItem, DeclaresJournal, DeclaresPeek, DeclaresPlan, DeclaresRequest, DeclaresSites, IsLiveScript, new_client, significant, with_event, with_one_more, with_wish}
 use Rattle.pv_model.specs.Text.{TextLine}
 use Rattle.pv_law_transcript.specs.Written.{AreNewItems, IsNewItem, IsWritten, IsWrittenWish}

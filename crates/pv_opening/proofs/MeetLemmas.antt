@@ -2,7 +2,7 @@
 use Rattle.std.proofs.Common.{◌≡◌, ◌≢◌, ℕ, ◌+◌, ◌<◌, ◌==◌, Bool, true, false, if◌then◌else◌, Some, List, [], ◌∷◌, ◌++◌, All, length, get_or, refl, sym, ◌∙◌, ap, subst, ⊎_elim, arith, append_assoc, eq-eqb, eqb-true}
 use Rattle.std.specs.Prelude.{Vec, drop, map, slice_get, take}
 use Rattle.std.specs.declared.alloc.Global.{Global}
-use Rattle.std.proofs.lemmas.List.{drop_more, get_or_append_left, get_or_push, length_push, map-append, take-append-le}
+use Rattle.std.proofs.lemmas.List.{drop_more, get_or_append_left, get_or_push, length_push, take-append-le}
 use Rattle.std.proofs.lemmas.List.Elements.{All-nil, All-push}
 use Rattle.std.proofs.lemmas.Option.{get_or_from_slice_get, slice_get-get_or, slice_get_cases, slice_get_within}
 use Rattle.std.proofs.Math.Seq.{take-append_seam}

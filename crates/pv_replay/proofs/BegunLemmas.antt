@@ -1,6 +1,6 @@
 -- The tests that are written before a leaf are those of the literals behind the last one that asks for a commit.
 use Rattle.std.specs.Prelude.{not}
-use Rattle.std.proofs.Common.{◌≡◌, ◌∙◌, ℕ, Bool, true, false, if◌then◌else◌, List, [], ◌∷◌, ◌++◌, refl, sym, ap}
+use Rattle.std.proofs.Common.{◌≡◌, ◌∙◌, ◌&&◌, ℕ, Bool, true, false, if◌then◌else◌, List, [], ◌∷◌, ◌++◌, refl, sym, ap}
 use Rattle.std.specs.List.{flat_map, list_all}
 use Rattle.std.proofs.lemmas.Bool.{false≢true}
 use Rattle.pv_base.specs.declared.literal.Literal.{Literal}
@@ -14,22 +14,32 @@ aborts literals = list_all (λ (one : Literal). not one.commits) literals
 abbrev pub all_bytes : List Literal → List ℕ
 all_bytes literals = flat_map (λ (literal : Literal). test_bytes literal.txn) literals
 
-others-abort : (literal : Literal) (commits : Bool) (literals : List Literal) → literal.commits ≡ commits → aborts (literal ∷ literals) ≡ true → aborts literals ≡ true
-others-abort literal true literals is all = absurd (let none : false ≡ true = rw is all in false≢true none)
-others-abort literal false literals is all = let rest : aborts literals ≡ true = rw is all in rest
+behind-and : (first other : Bool) → (first && other) ≡ true → other ≡ true
+behind-and true other both = both
+behind-and false other both = absurd (false≢true both)
+
+begun-if : (literal : Literal) (literals : List Literal) (all : Bool) → aborts (literal ∷ literals) ≡ all
+    → begun (literal ∷ literals) ≡ (if all then literal ∷ literals else begun literals)
+begun-if literal literals all is = ap (λ (all : Bool). if all then literal ∷ literals else begun literals) is
+
+tests-if : (literal : Literal) (literals : List Literal) (all : Bool) → aborts (literal ∷ literals) ≡ all
+    → tests_bytes (literal ∷ literals) ≡ (if all then test_bytes literal.txn else []) ++ tests_bytes literals
+tests-if literal literals all is = ap (λ (all : Bool). (if all then test_bytes literal.txn else []) ++ tests_bytes literals) is
 
 all-begun : (literals : List Literal) → aborts literals ≡ true → begun literals ≡ literals
 all-begun [] all = refl
-all-begun (literal ∷ literals) all = rw all refl
+all-begun (literal ∷ literals) all = begun-if literal literals true all
 
 all-tests : (literals : List Literal) → aborts literals ≡ true → tests_bytes literals ≡ all_bytes literals
 all-tests [] all = refl
-all-tests (literal ∷ literals) all = rw all (ap (λ (rest : List ℕ). test_bytes literal.txn ++ rest) (all-tests literals (others-abort literal literal.commits literals refl all)))
+all-tests (literal ∷ literals) all =
+    tests-if literal literals true all
+    ∙ ap (λ (rest : List ℕ). test_bytes literal.txn ++ rest) (all-tests literals (behind-and (not literal.commits) (aborts literals) all))
 
 begun-by : (literal : Literal) (literals : List Literal) (all : Bool) → aborts (literal ∷ literals) ≡ all → tests_bytes literals ≡ all_bytes (begun literals)
     → tests_bytes (literal ∷ literals) ≡ all_bytes (begun (literal ∷ literals))
-begun-by literal literals true is rest = rw is (ap (λ (more : List ℕ). test_bytes literal.txn ++ more) (all-tests literals (others-abort literal literal.commits literals refl is)))
-begun-by literal literals false is rest = rw is rest
+begun-by literal literals true is rest = all-tests (literal ∷ literals) is ∙ ap all_bytes (sym (begun-if literal literals true is))
+begun-by literal literals false is rest = tests-if literal literals false is ∙ rest ∙ ap all_bytes (sym (begun-if literal literals false is))
 
 pub tests-begun : (literals : List Literal) → tests_bytes literals ≡ all_bytes (begun literals)
 tests-begun [] = refl
@@ -39,18 +49,19 @@ tests-begun (literal ∷ literals) = begun-by literal literals (aborts (literal 
 abbrev pub found : List Literal → List Literal → List Literal
 found behind rest = if aborts rest then behind else begun rest
 
-later-by : (later : List Literal) (all : Bool) → aborts later ≡ all → begun later ≡ found later later
-later-by later true is = rw is (all-begun later is)
-later-by later false is = rw is refl
-
-step-by : (literal : Literal) (commits : Bool) (later behind : List Literal) (all : Bool) → literal.commits ≡ commits → aborts later ≡ all
-    → found behind (literal ∷ later) ≡ found (if commits then later else behind) later
-step-by literal true later behind all is are = rw is (later-by later all are)
-step-by literal false later behind true is are = rw (is, are) refl
-step-by literal false later behind false is are = rw (is, are) refl
-
-pub found-step : (literal : Literal) (later behind : List Literal) → found behind (literal ∷ later) ≡ found (if literal.commits then later else behind) later
-found-step literal later behind = step-by literal literal.commits later behind (aborts later) refl refl
+first-by : (literals : List Literal) (all : Bool) → aborts literals ≡ all → begun literals ≡ (if all then literals else begun literals)
+first-by literals true is = all-begun literals is
+first-by literals false is = refl
 
 pub found-first : (literals : List Literal) → begun literals ≡ found literals literals
-found-first literals = later-by literals (aborts literals) refl
+found-first literals = first-by literals (aborts literals) refl
+
+step-by : (literal : Literal) (later behind : List Literal) (commits all : Bool) → begun later ≡ (if all then later else begun later)
+    → (if (not commits && all) then behind else (if (not commits && all) then literal ∷ later else begun later))
+    ≡ (if all then (if commits then later else behind) else begun later)
+step-by literal later behind true all first = first
+step-by literal later behind false true first = refl
+step-by literal later behind false false first = refl
+
+pub found-step : (literal : Literal) (later behind : List Literal) → found behind (literal ∷ later) ≡ found (if literal.commits then later else behind) later
+found-step literal later behind = step-by literal later behind literal.commits (aborts later) (found-first later)

@@ -73,6 +73,8 @@ module _ {R W B : Type 0} (source : sources.Ghosts R) (sink : sinks.Ghosts W) (M
     pub write_fault : ended ≡ Ok text.WriteFault → HasFailed sink before after × ((input : List ℕ) → source.left unread ≡ Some input → length input ≤ MAX_INPUT)
     -- Of an input that is too long nothing was written.
     pub too_long : ended ≡ Err why.TooLong → WritesNothing sink before after
+    -- And none was where there was no memory for it.
+    pub no_memory : ended ≡ Err why.NoMemory → WritesNothing sink before after
     -- The source's count of faults stays, unless it gives up for the input.
     pub unfailed : ended ≢ Err why.Failed → source.faults left ≡ source.faults unread
     -- Unless it is done, the bay is as it was.

@@ -1,5 +1,5 @@
 -- What an input is that is lent.
-use Rattle.std.specs.Prelude.{◌≡◌, ℕ, ◌<◌, ⊤}
+use Rattle.std.specs.Prelude.{◌≡◌, ℕ, ◌<◌, List, ⊤}
 use Rattle.pv_base.specs.Catalog.{Declared}
 use Rattle.pv_format.specs.MessageSpelling.{SpellsEnvelope}
 use Rattle.pv_model.specs.Plan.{plan_of}

@@ -152,12 +152,11 @@ pub(crate) fn load<L: Log>(
 pub(crate) fn unopened<L: Log>(error: ResumeError<L>) -> OpenError<L>
     ensures { result ≡ unopened error }
 {
-    // What outlived the memory is taken out whole: what a pattern leaves in place is dropped field by field, which proves slowly.
     match error {
-        ResumeError::Failed(log, _left) => OpenError::Failed(log),
-        ResumeError::Full(log, _left, length) => OpenError::Full(log, length),
-        ResumeError::EpochsSpent(log, _left) => OpenError::EpochsSpent(log),
-        ResumeError::NoMemory(log, _left) => OpenError::NoMemory(log),
+        ResumeError::Failed(log, _) => OpenError::Failed(log),
+        ResumeError::Full(log, _, length) => OpenError::Full(log, length),
+        ResumeError::EpochsSpent(log, _) => OpenError::EpochsSpent(log),
+        ResumeError::NoMemory(log, _) => OpenError::NoMemory(log),
     }
 }
 

@@ -193,7 +193,7 @@ impl<L: Log> Site<L> {
     pub fn take(&mut self, input: Given<'_>) -> Result<Step, StepError>
         requires ready { IsReady L.model self.old }
         requires input { IsGivenFor self.old.me self.old.catalog input }
-        ensures step { Steps L.model self.old self.new self.old.running (input_in input) result }
+        ensures step { Steps L.model self.old self.new self.old.running (input_in input.entry) result }
         ensures ready { IsReady L.model self.new }
         ensures spelled { IfOk result (λ step. All (IsSpelledFrom self.old.me) step.sends.items) }
     {

@@ -30,7 +30,7 @@ pub(crate) fn take<L: Log>(
 ) -> Result<Step, StepError>
     requires ready { AreReady L.model log.old parts.old }
     requires input { IsGivenFor parts.old.me.0 parts.old.catalog input }
-    ensures step { StepsOnLog L.model log.old log.new parts.old parts.new (step_on (here_of parts.old) (input_in input)) result }
+    ensures step { StepsOnLog L.model log.old log.new parts.old parts.new (step_on (here_of parts.old) (input_in input.entry)) result }
     ensures intact { L.model.is_intact log.new }
     ensures sound { AreSound parts.new }
     ensures epoch { parts.new.locks.epoch ≡ parts.old.locks.epoch }
@@ -53,7 +53,7 @@ fn step_on<L: Log>(
 ) -> Result<Step, StepError>
     requires ready { AreReady L.model log.old parts.old }
     requires input { IsGivenFor parts.old.me.0 parts.old.catalog input }
-    ensures step { StepsOnLog L.model log.old log.new parts.old parts.new (step_on (here_of parts.old) (input_in input)) result }
+    ensures step { StepsOnLog L.model log.old log.new parts.old parts.new (step_on (here_of parts.old) (input_in input.entry)) result }
     ensures intact { L.model.is_intact log.new }
 {
     few_inputs_append();

@@ -41,4 +41,24 @@ begun_first_as old first put more new same begun = begun_first old first more ne
 pub begun_next_as : (old first put more mid new : List ℕ) → put ≡ first → mid ≡ old ++ put → Begins new (mid ++ more) → Begins new (old ++ (first ++ more))
 begun_next_as old first put more mid new same is begun = begun_next old first more mid new (is ∙ ap (λ it. old ++ it) same) begun
 
+-- The line of a look is what stands before its words, and its words and the line's end.
+look_line : (head number space words end : List ℕ) → head ++ ((number ++ (space ++ words)) ++ end) ≡ (head ++ (number ++ space)) ++ (words ++ end)
+look_line head number space words end =
+    ap (λ it. head ++ it)
+    (append_assoc number (space ++ words) end ∙ ap (λ it. number ++ it) (append_assoc space words end) ∙ sym (append_assoc number space (words ++ end)))
+    ∙ sym (append_assoc head (number ++ space) (words ++ end))
+
+-- A beginning of what stands before the words of a look is one of its line.
+pub begun_look : (old head number space words end new : List ℕ) → Begins new (old ++ (head ++ (number ++ space)))
+    → Begins new (old ++ (head ++ ((number ++ (space ++ words)) ++ end)))
+begun_look old head number space words end new begun =
+    subst (λ it. Begins new (old ++ it)) (sym (look_line head number space words end)) (begun_first old (head ++ (number ++ space)) (words ++ end) new begun)
+
+-- So are that and a beginning of the rest.
+pub begun_words : (old head number space words end mid new : List ℕ) → mid ≡ old ++ (head ++ (number ++ space)) → Begins new (mid ++ (words ++ end))
+    → Begins new (old ++ (head ++ ((number ++ (space ++ words)) ++ end)))
+begun_words old head number space words end mid new put begun =
+    subst (λ it. Begins new (old ++ it)) (sym (look_line head number space words end))
+    (begun_next old (head ++ (number ++ space)) (words ++ end) mid new put begun)
+
 pub ruleset beginnings = (begun_none, begun_first, begun_next)

@@ -1,11 +1,10 @@
 -- Cases that are read into nodes: a leaf, and a test whose sides were read one after the other.
-use Rattle.std.proofs.Common.{◌≡◌, ℕ, ◌<◌, true, false, List, [], ◌∷◌, ◌++◌, length, refl, sym, ap, ap₂, subst, ◌∙◌, append_assoc, arith}
+use Rattle.std.proofs.Common.{◌≡◌, ℕ, true, false, List, [], ◌∷◌, ◌++◌, length, sym, ap, ap₂, subst, ◌∙◌, append_assoc, arith}
 use Rattle.std.proofs.lemmas.List.{append-nil}
 use Rattle.pv_base.specs.declared.literal.Literal.{Literal}
 use Rattle.pv_base.specs.declared.txn.TxnId.{TxnId}
 use Rattle.pv_base.specs.Polyvalue.{Case, under, IsCanonical, sure, tested}
 use Rattle.pv_cases.specs.CasesAt.{under_all}
-use Rattle.pv_cases.specs.Sides.{AreSides}
 use Rattle.pv_cases.proofs.CasesAtLemmas.{behind-none, behind-tested}
 use Rattle.pv_tree.specs.Meanings.{cases_at, IsAt, IsRead, Keeps}
 use Rattle.pv_tree.specs.Nodes.{AreBelow}

@@ -12,8 +12,8 @@ use std::alloc::Global;
 
 impl<V: Exact> Nodes<V> {
     /// The number of the node that is the second one where the transaction commits, and else the first. The nodes that this wants are made. Takes
-    /// time in proportion to the pairs of nodes, one below each of these, that stand at the same tests of earlier transactions, times at most the nodes that are
-    /// made.
+    /// time in proportion to the ways down both at once as far as they test earlier transactions, without those below a pair of nodes that is
+    /// noted, times at most the nodes that are made.
     pub fn choose(
         &mut self,
         alloc: Global,

@@ -183,7 +183,7 @@ impl<V: Exact> Poly<V> {
         self.tree.cases()
     }
 
-    /// An equal polyvalue, in memory of its own. Takes time in proportion to the literals.
+    /// An equal polyvalue. Of more than two cases nothing is copied: they belong to both together.
     pub fn copy(&self, alloc: Global) -> Result<Poly<V>, NoMemory>
         ensures equal { IfOk result (λ copy. copy ≡ self.now) }
     {

@@ -222,6 +222,16 @@ fn cases_are_kept_or_joined_or_refused(rt: HostRuntime) {
     }
 }
 
+#[test]
+fn leaves_of_a_tree_are_kept(rt: HostRuntime) -> Result<(), Fail> {
+    let text = "0- 1- 50; 0- 1+ 60; 0+ 60;";
+    match Poly::of_leaves(rt.alloc(), case_list(rt.alloc(), text)?)? {
+        Ok(poly) => assert_cases(&rt, &poly, text),
+        Err(_) => panic!(rt; "given back"),
+    }
+    Ok(())
+}
+
 // The first transactions of these sites.
 fn first_txns(alloc: Global, sites: &[u8]) -> Result<Vec<TxnId>, NoMemory> {
     let mut txns = Vec::new(alloc);

@@ -17,7 +17,6 @@ ghost use Rattle.pv_world.specs.Cells.{CanFall, CanPack, CanStart, HasFallen, Ha
 ghost use Rattle.pv_world.specs.Disks.{IsLogOfSite};
 ghost use Rattle.pv_world.specs.Readings.{OwnsItem, reading_in};
 ghost use Rattle.pv_world.specs.Stands.{IsSomeSite, StandsForSite};
-ghost use Rattle.pv_world.specs.declared.cell.Cell.TheVariants.{Down, Up};
 
 use crate::restart::{fallen, first_started, started};
 use pv_base::{Catalog, GrantId, ItemId, Mode, NoMemory, SiteId, TxnId};
@@ -105,7 +104,7 @@ impl Cell {
     ) -> Result<Stepped, NoMemory>
         requires { TakesInput catalog.now site.0 self.old input }
         ensures { (is : model.Site) → StandsForSite catalog.now site.0 self.old is →
-            IfOk result (HasStepped catalog.now site.0 self.old self.new is is.running (input_in input)) }
+            IfOk result (HasStepped catalog.now site.0 self.old self.new is is.running (input_in input.entry)) }
     {
         armed_logs();
         let Cell::Up(up) = self else {
@@ -153,24 +152,10 @@ impl Cell {
         ensures { (left : Remains) (added : Option Record) (standing : Standing) (armed : Option model.Arm) (fired : Option Bool) → IsUpOver left added standing armed fired self.old →
             IfOk result (HasFallen left added standing fired self.new) }
     {
-        match replace(self, Cell::Vacant) {
-            Cell::Up(up) => self.fall_from(up, length, alloc),
+        let Cell::Up(up) = replace(self, Cell::Vacant) else {
             // The site is up.
-            _other => unreachable!(),
-        }
-    }
-
-    // The same, of the site that was up. It stands apart, since a value that is taken apart proves slowly where the function may end early.
-    fn fall_from(
-        &mut self,
-        up: Site<CkptLog<MemDisk>>,
-        length: u64,
-        alloc: Global,
-    ) -> Result<bool, NoMemory>
-        requires { CanFall length (Up up) }
-        ensures { (left : Remains) (added : Option Record) (standing : Standing) (armed : Option model.Arm) (fired : Option Bool) → IsUpOver left added standing armed fired (Up up) →
-            IfOk result (HasFallen left added standing fired self.new) }
-    {
+            unreachable!()
+        };
         let (log, left) = up.leave();
         let (cell, stops) = fallen(log.close(), length, left, alloc)?;
         *self = cell;
@@ -209,31 +194,16 @@ impl Cell {
             IfOk result (HasStarted catalog.now site.0 self.old self.new is is.running) }
     {
         match replace(self, Cell::Vacant) {
-            Cell::Down(disk, left) => self.start_on(disk, left, alloc, site, catalog),
+            Cell::Down(disk, left) => {
+                let (cell, start) = started(disk, left, alloc, site, catalog)?;
+                *self = cell;
+                Ok(start)
+            }
             up => {
                 *self = up;
                 Ok(Start::Up)
             }
         }
-    }
-
-    // Starts the site that was down over this disk. It stands apart as `fall_from` does.
-    fn start_on(
-        &mut self,
-        disk: MemDisk,
-        left: Recovered,
-        alloc: Global,
-        site: SiteId,
-        catalog: &Catalog,
-    ) -> Result<Start, NoMemory>
-        requires replayable { CanStart catalog.now site.0 (Down disk left) }
-        requires site { site.0 < catalog.now.sites }
-        ensures { (is : model.Site) → StandsForSite catalog.now site.0 (Down disk left) is →
-            IfOk result (HasStarted catalog.now site.0 (Down disk left) self.new is is.running) }
-    {
-        let (cell, start) = started(disk, left, alloc, site, catalog)?;
-        *self = cell;
-        Ok(start)
     }
 
     /// Lets the `k`-th write or sync of the site's disk from now on, counted from 1, fire in place of one armed before. It then leaves what the

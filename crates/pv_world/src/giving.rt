@@ -35,7 +35,7 @@ impl World {
     ) -> Result<(), WorldError>
         requires { CanGive self.old site.0 input }
         ensures { (is : model.World) → world.Stands self.old is → IsOrderly (setup_of self.old.catalog) is →
-            Comes self.old self.new lines.old.items lines.new.items (given (setup_of self.old.catalog) is site.0 (input_in input) (site_at is site.0).running) result }
+            Comes self.old self.new lines.old.items lines.new.items (given (setup_of self.old.catalog) is site.0 (input_in input.entry) (site_at is site.0).running) result }
     {
         match self.cells[site.0 as usize].step(self.alloc, site, &self.catalog, input)? {
             Stepped::Made(step) => self.follow(site, step, lines),

@@ -329,6 +329,8 @@ pub struct Info {
     pub limit: u64,
     /// The epoch in which the site was opened, unless something is to be written: a crash may undo it.
     pub epoch: Option<u32>,
+    /// How many records are in the file; or `u32::MAX` if there are more, for which a journal of [`MAX_JOURNAL`] has no room.
+    pub records: u32,
 }
 
 // How far a site is, as C has it.
@@ -339,6 +341,7 @@ struct Told {
     asked: u64,
     limit: u64,
     epoch: u32,
+    records: u32,
 }
 
 /// The status and the text that `polydb run` gives for a schedule. At status 0 all of it was run.
@@ -581,6 +584,7 @@ impl Site {
             asked: told.asked,
             limit: told.limit,
             epoch: (told.epoch != 0).then_some(told.epoch),
+            records: told.records,
         })
     }
 
@@ -684,7 +688,7 @@ mod tests {
 
     #[test]
     fn the_version_is_told() {
-        assert_eq!(version(), 200);
+        assert_eq!(version(), 300);
     }
 
     #[test]
@@ -705,7 +709,10 @@ mod tests {
         let mut site = Site::open(CATALOG, 0, EMPTY_JOURNAL).unwrap();
         assert_eq!(site.item(1), Ok(Some((b"b".to_vec(), 1))));
         assert_eq!(site.item(2), Ok(None));
-        assert_eq!(site.info().map(|info| info.epoch), Ok(None));
+        assert_eq!(
+            site.info().map(|info| (info.epoch, info.records)),
+            Ok((None, 0))
+        );
         site.submit_tagged(b"a := a - 10 ; b := b + 10", false, 7)
             .unwrap();
         assert_eq!(site.outcome(0, 1, 0), Err(Error::Unwritten));
@@ -715,7 +722,10 @@ mod tests {
         }
         assert_eq!(site.outcome(0, 1, 0), Ok(Some(Outcome::AtWork)));
         assert_eq!(site.outcome(0, 1, 1), Ok(None));
-        assert_eq!(site.info().map(|info| info.epoch), Ok(Some(1)));
+        assert_eq!(
+            site.info().map(|info| (info.epoch, info.records)),
+            Ok((Some(1), 1))
+        );
 
         // The tag comes with the report of the number.
         let mut reports = Vec::new();

@@ -1,5 +1,5 @@
 // What a host asks of a site in bytes, which changes nothing.
-ghost use Rattle.std.specs.Prelude.{slice_get};
+ghost use Rattle.std.specs.Prelude.{◌≡◌, ◌^◌, ◌-◌, min, slice_get};
 ghost use Rattle.pv_embed.specs.Outcomes.{TellsOutcome};
 ghost use Rattle.pv_handle.specs.Asked.{GivesItem, Informs};
 ghost use Rattle.pv_handle.specs.ByteState.{OnSite};
@@ -26,7 +26,7 @@ impl ByteSite {
         give(catalog.name(item), site.0 as u64, out)
     }
 
-    /// How long its journal is, and its epoch.
+    /// How long its journal is, its epoch, and how many records it has.
     pub fn info(&self) -> SiteInfo
         ensures { Informs self.now.hosted result }
     {
@@ -39,6 +39,7 @@ impl ByteSite {
             asked,
             limit,
             epoch,
+            records: in_four_bytes(self.site.records()),
         }
     }
 
@@ -55,4 +56,11 @@ impl ByteSite {
     {
         self.site.stands_ready();
     }
+}
+
+// The count, or the greatest that has room.
+fn in_four_bytes(count: u64) -> u32
+    ensures { result ≡ min count (2 ^ 32 - 1) }
+{
+    count.min(u64::from(u32::MAX)) as u32
 }

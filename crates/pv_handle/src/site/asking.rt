@@ -30,7 +30,7 @@ impl SiteSlot {
         Some(given)
     }
 
-    /// How long the site's journal is, and its epoch.
+    /// How long the site's journal is, its epoch, and how many records the journal has.
     pub fn info(&mut self, alloc: Global) -> Option<SiteInfo>
         ensures { Asks (λ old new info. (new ≡ old) × Informs old.hosted info) self.old.handle.site self.new.handle.site result }
     {

@@ -1,4 +1,5 @@
 use Rattle.std.proofs.Common.{arith, refl}
+use Rattle.pv_law_hosted.proofs.RequestedLemmas.{finds-again, second-records}
 use Rattle.pv_law_hosted.proofs.WorkedLemmas.{asks-for-record, configures, dies, dies-writing, is-new, mirrored-found, opens, writes-record}
 use Rattle.pv_law_hosted.proofs.a_record_is_found.Goals as goal
 use Rattle.pv_law_hosted.specs.Worked.{config, catalog, schedule, fresh, found}
@@ -30,3 +31,9 @@ returns-clause-mirrored c =
     mirrored-found c.one_record.ensures (λ bytes contents others is are. (c.one_journal.ensures bytes).one_value contents others is are) (c.deployments_are_runs.ensures.new catalog fresh is-new)
     (λ d later events mirrored happens. c.deployments_are_runs.ensures.event config schedule d later events configures mirrored happens)
     (λ events mirrored. c.mirrored_deployments_agree.ensures.file (setup_of catalog) found events 0 mirrored (omega arith) refl)
+
+pub returns-clause-reopened : goal.returns-clause-reopened
+returns-clause-reopened c = finds-again
+
+pub returns-clause-records : goal.returns-clause-records
+returns-clause-records c = second-records c.one_record.ensures (λ bytes contents others is are. (c.one_journal.ensures bytes).one_value contents others is are)

@@ -1,8 +1,15 @@
 use Rattle.pv_law_hosted.proofs.CallLemmas.{ask-happens, beside-happens, give-happens, going-happens, idle-happens, mirrored-has, opening-happens, receive-happens, submit-happens, take-happens, tell-happens, tick-happens, write-happens, writing-happens}
+use Rattle.pv_law_hosted.proofs.WalkedLemmas.{opened-has, still-has}
 use Rattle.pv_law_hosted.proofs.calls_happen.Goals as goal
 
 pub returns-clause-has : goal.returns-clause-has
 returns-clause-has c = mirrored-has
+
+pub returns-clause-has_opened : goal.returns-clause-has_opened
+returns-clause-has_opened c config file schedule d n site configures opened here = opened-has c.one_schedule.ensures config file schedule d n site configures opened here
+
+pub returns-clause-keeps : goal.returns-clause-keeps
+returns-clause-keeps c config catalog other d later n site next has happens here = still-has config other d later happens n catalog site next has here
 
 pub returns-clause-submitted : goal.returns-clause-submitted
 returns-clause-submitted c config catalog d n site next text query result has stands by =

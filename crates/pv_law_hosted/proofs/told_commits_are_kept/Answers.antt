@@ -1,5 +1,6 @@
 use Rattle.pv_law_hosted.proofs.AgreeLemmas.{last-world}
 use Rattle.pv_law_hosted.proofs.AloneLemmas.{keeps-file, mirrored-file, still-begun, still-committed, still-known}
+use Rattle.pv_law_hosted.proofs.WalkedLemmas.{walked-on}
 use Rattle.pv_law_hosted.proofs.told_commits_are_kept.Goals as goal
 use Rattle.pv_law_world.specs.Sites.{AreEpochsRecorded}
 use Rattle.pv_protocol.specs.Run.{run}
@@ -28,6 +29,9 @@ returns-clause-goes_on c =
       idle = c.files_hold_what_was_let_out.ensures.idle;
       crashed = c.files_hold_what_was_let_out.ensures.crashed;
     }
+
+pub returns-clause-walked : goal.returns-clause-walked
+returns-clause-walked c config catalog d later n last happens goes_on = walked-on config catalog d later happens n last goes_on
 
 pub returns-clause-kept : goal.returns-clause-kept
 returns-clause-kept c n first last site new later txn has here told goes_on there =

@@ -26,6 +26,7 @@ returns-in-Ok g c =
       read_fault = λ is. absurd (let wrong : ⊥ = cc in wrong);
       write_fault = λ is. c.audit_text.ensures.write_fault (IfOk-at_ok (λ e. ended ≡ e) is refl);
       too_long = λ is. absurd (let wrong : ⊥ = cc in wrong);
+      no_memory = λ is. absurd (let wrong : ⊥ = cc in wrong);
       unfailed = λ other. c.in-Ok.ensures.uncounted (λ failed. let wrong : ⊥ = cc in wrong);
     }
 
@@ -41,5 +42,6 @@ returns-in-Err g c =
           (c.in-Err.ensures.fault (ap Err failed), c.in-Err.ensures.failed_within (ap Err failed), search rules);
       write_fault = λ is. absurd (let wrong : ⊥ = cc in wrong);
       too_long = λ is. search rules;
+      no_memory = λ is. search rules;
       unfailed = λ other. c.in-Err.ensures.uncounted (λ failed. other (ap Err (IfErr-at_err (λ e. reason ≡ e) failed refl)));
     }

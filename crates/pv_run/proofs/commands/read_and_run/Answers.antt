@@ -33,6 +33,7 @@ returns-in-Ok g c =
             omega (arith, ap length (c.deref.ensures.value ∙ whole.0), c.deref.ensures.len, c.in-Ok.ensures.within),
       );
       too_long = λ is. absurd (let wrong : ⊥ = cc in wrong);
+      no_memory = λ is. absurd (let wrong : ⊥ = cc in wrong);
       unfailed = λ other. c.in-Ok.ensures.uncounted (λ failed. let wrong : ⊥ = cc in wrong);
       alone = λ other. c.run_text.ensures.alone (λ done. other (ap Ok done));
     }
@@ -52,6 +53,7 @@ returns-in-Err g c =
           (c.in-Err.ensures.fault (ap Err failed), c.in-Err.ensures.failed_within (ap Err failed), search rules);
       write_fault = λ is. absurd (let wrong : ⊥ = cc in wrong);
       too_long = λ is. search rules;
+      no_memory = λ is. search rules;
       unfailed = λ other. c.in-Err.ensures.uncounted (λ failed. other (ap Err (IfErr-at_err (λ e. end ≡ e) failed refl)));
       alone = λ other. refl;
     }

@@ -1,5 +1,5 @@
 -- Literals are one where `==` says so.
-use Rattle.std.proofs.Common.{◌≡◌, ◌∙◌, ◌&&◌, Bool, true, [], ◌∷◌, sym, ap, refl}
+use Rattle.std.proofs.Common.{◌∙◌, ◌&&◌, Bool, true, [], ◌∷◌, sym, ap, refl}
 use Rattle.pv_base.proofs.Basics.{heads}
 use Rattle.pv_base.specs.Canonical.{IsExact}
 use Rattle.pv_base.specs.Polyvalue.{Case}

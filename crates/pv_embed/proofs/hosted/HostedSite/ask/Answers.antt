@@ -1,4 +1,4 @@
-use Rattle.std.proofs.Common.{◌≡◌, ◌≤◌, All, ap, sym, subst, ◌∙◌}
+use Rattle.std.proofs.Common.{◌≡◌, ◌≤◌, length, All, ap, sym, subst, ◌∙◌}
 use Rattle.pv_disk_model.specs.Size.{size_of}
 use Rattle.pv_host.specs.HostLog.{contents_of, with_asked}
 use Rattle.pv_embed.proofs.HostedLemmas.{ready_asked, stored_asked}
@@ -19,6 +19,7 @@ invariant_of-self c =
       site = c.self.invariant.site;
       catalog = c.self.invariant.catalog;
       stored = c.self.invariant.stored ∙ ap size_of (sym (stored_asked site c.args.room log same));
+      records = c.self.invariant.records ∙ ap length (sym (stored_asked site c.args.room log same));
       some = c.self.invariant.some;
       no_longer = subst (λ n. All (λ (made : Made). made.length ≤ n) c.self.inside.made.items) (ap size_of (sym keeps)) c.self.invariant.no_longer;
       spelled = c.self.invariant.spelled;

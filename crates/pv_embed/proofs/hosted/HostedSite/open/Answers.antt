@@ -42,6 +42,7 @@ invariant_of-result c =
       site = known;
       catalog = ap (λ (state : SiteState HostState). state.catalog) opened.site;
       stored = c.stored-stored.ensures ∙ ap size_of (sym (stored_after (read_all ∷ reserve (length opened.content) ∷ append opened.content ∷ []) log site.log true opened.calls));
+      records = c.records-records.ensures ∙ ap length (sym (stored_after (read_all ∷ reserve (length opened.content) ∷ append opened.content ∷ []) log site.log true opened.calls));
       some = subst (All (λ (made : Made). outputs_of c.args.me made ≢ [])) (sym c.new.ensures.items) (All-nil (λ (made : Made). outputs_of c.args.me made ≢ []));
       no_longer = subst (All (λ (made : Made). made.length ≤ size_of (contents_of site.log))) (sym c.new.ensures.items)
           (All-nil (λ (made : Made). made.length ≤ size_of (contents_of site.log)));

@@ -1,4 +1,4 @@
-use Rattle.std.proofs.Common.{◌≡◌, ◌≢◌, ◌≤◌, List, [], ◌++◌, All, ap, sym, subst, ◌∙◌, map, arith}
+use Rattle.std.proofs.Common.{◌≡◌, ◌≢◌, ◌≤◌, List, [], ◌++◌, length, All, ap, sym, subst, ◌∙◌, map, arith}
 use Rattle.std.specs.Prelude.{flat_map}
 use Rattle.std.proofs.lemmas.List.Elements.{All-append, All-weaker}
 use Rattle.pv_disk_model.specs.Size.{size_of}
@@ -82,6 +82,7 @@ invariant_of-self-in-Ok c =
       site = was.site;
       catalog = still_catalog inside.site site was.running input answer was.up steps ∙ was.catalog;
       stored = was.stored ∙ ap size_of (sym (still_stored inside.site site was.running input answer was.up steps));
+      records = was.records ∙ ap length (sym (still_stored inside.site site was.running input answer was.up steps));
       some = c.keep.ensures.some inside.me.0 (subst (All (λ (made : Made). outputs_of inside.me.0 made ≢ [])) same was.some);
       no_longer = c.keep.ensures.lengths size (subst (All (λ (made : Made). made.length ≤ size)) same before) (omega (arith, long));
       spelled =

@@ -18,6 +18,7 @@ invariant_of-self c =
       site = c.self.invariant.site;
       catalog = c.self.invariant.catalog;
       stored = c.stored-stored.ensures;
+      records = c.records-records.ensures;
       some = c.self.invariant.some;
       no_longer = subst (λ n. All (λ (made : Made). made.length ≤ n) c.self.inside.made.items) (ap size_of (sym (contents_written site log same))) c.self.invariant.no_longer;
       spelled = c.self.invariant.spelled;

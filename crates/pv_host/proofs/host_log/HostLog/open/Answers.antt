@@ -1,4 +1,5 @@
-use Rattle.std.proofs.Common.{◌≡◌, map, refl, sym, ◌∙◌, ap}
+use Rattle.std.proofs.Common.{◌≡◌, arith, length, map, refl, sym, ◌∙◌, ap}
+use Rattle.std.proofs.lemmas.List.{length-map}
 use Rattle.pv_disk_model.specs.Size.{size_of}
 use Rattle.pv_host.proofs.HostLemmas.{all_found, end_found, stored_found, told_on}
 use Rattle.pv_host.proofs.host_log.HostLog.open.Goals as goal
@@ -16,6 +17,8 @@ invariant_of-result c =
     let stored = stored_found (map (λ it. it.items) c.found.result.items) c.new-2.result.items contents is c.new-2.ensures in
     let all = all_found _ c.new.result.asked c.new.result.pending contents stored c.new.ensures.asked c.new.ensures.pending in
     record {
+      records_are = omega (arith, ap length stored, length-map c.in-Ok.contents.items (λ it. it.items));
+      group_is = ap length (sym c.new.ensures.asked);
       end_is = end_found _ contents c.in-Some.length stored size;
       length_is = size ∙ ap size_of (sym all);
       bounded = sized.1;

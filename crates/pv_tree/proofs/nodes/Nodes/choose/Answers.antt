@@ -1,8 +1,5 @@
 -- At first no choice is noted.
 use Rattle.std.proofs.Common.{ℕ, List, Option, None, get_or, ap, ◌∙◌}
-use Rattle.std.proofs.lemmas.Result.{IfOk-weaker}
-use Rattle.pv_tree.specs.Choosing.{ChoosesInto}
-use Rattle.pv_tree.specs.Meanings.{cases_at, Chooses}
 use Rattle.pv_tree.proofs.ChoosingLemmas.{none-chosen}
 use Rattle.pv_tree.proofs.nodes.Nodes.choose.Goals as goal
 

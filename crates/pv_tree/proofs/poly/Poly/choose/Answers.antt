@@ -1,8 +1,8 @@
 -- What is given is the choice, and what is reported is its count.
-use Rattle.std.proofs.Common.{◌∙◌, arith, Result, Err, sym, subst, rules}
+use Rattle.std.proofs.Common.{◌∙◌, arith, sym, subst, rules}
 use Rattle.std.proofs.lemmas.Result.{err_from_is_err_and}
 use Rattle.pv_base.specs.Canonical.{IsExact}
-use Rattle.pv_base.specs.Polyvalue.{Case, IsCanonical}
+use Rattle.pv_base.specs.Polyvalue.{IsCanonical}
 use Rattle.pv_base.specs.declared.faults.NameError.TheVariants.{NoMemory}
 use Rattle.pv_base.specs.declared.limits.TheConstants.{HELD_NAMES}
 use Rattle.pv_cases.proofs.SureChoice.{sure-chosen}

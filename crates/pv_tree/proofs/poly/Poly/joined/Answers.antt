@@ -1,5 +1,5 @@
 -- The polyvalue of the table has the values of the cases.
-use Rattle.std.proofs.Common.{◌≡◌, ◌≤◌, ◌^◌, List, Result, Err, length, sym, ap, subst, ◌∙◌, rules}
+use Rattle.std.proofs.Common.{◌≡◌, ◌≤◌, ◌^◌, List, length, sym, ap, subst, ◌∙◌, rules}
 use Rattle.std.proofs.lemmas.Result.{err_from_is_err_and}
 use Rattle.pv_base.specs.Canonical.{IsExact}
 use Rattle.pv_base.specs.Assignment.{AreAscending}

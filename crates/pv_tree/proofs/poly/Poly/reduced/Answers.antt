@@ -1,5 +1,5 @@
 -- Cases that have to be canonical are those of their table, or have a first fault.
-use Rattle.std.proofs.Common.{◌≡◌, ◌∙◌, List, IfSome, refl, sym, subst, rules}
+use Rattle.std.proofs.Common.{◌≡◌, List, IfSome, refl, sym, subst, rules}
 use Rattle.std.proofs.lemmas.Result.{err_from_is_err_and}
 use Rattle.pv_base.specs.Canonical.{IsExact}
 use Rattle.pv_base.specs.CaseFaults.{fault_of, IsJoinFault}

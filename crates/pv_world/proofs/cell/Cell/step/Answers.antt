@@ -22,13 +22,13 @@ returns-in-Ok c = λ is stands.
     (input_in c.args.input) c.in-Ok.step c.in-Ok.ensures.step c.in-Ok.ensures.ready c.in-Ok.ensures.spelled)
     stands
 
-pub step-requires-clause-ready : goal.step-requires-clause-ready
-step-requires-clause-ready c =
+pub take-requires-clause-ready : goal.take-requires-clause-ready
+take-requires-clause-ready c =
     let up = is-up c.args.catalog.now c.args.site.0 c.args.self.now c.in-Up.up c.requires.is c.in-Up.is c.requires.stands in
     up.ready
 
-pub step-requires-clause-input : goal.step-requires-clause-input
-step-requires-clause-input c =
+pub take-requires-clause-input : goal.take-requires-clause-input
+take-requires-clause-input c =
     let up = is-up c.args.catalog.now c.args.site.0 c.args.self.now c.in-Up.up c.requires.is c.in-Up.is c.requires.stands in
     subst (λ (me : ℕ). IsGivenFor me c.in-Up.up.catalog c.args.input) (sym up.me)
     (subst (λ (declared : Declared). IsGivenFor c.args.site.0 declared c.args.input) (sym up.catalog) c.requires.fits)

@@ -1,0 +1,9 @@
+pub mod CompactLemmas
+pub mod GroupLemmas
+pub mod KnownLemmas
+pub mod MoreLemmas
+pub mod RangeLemmas
+pub mod ReadLemmas
+pub mod StandingLemmas
+pub mod ValueLemmas
+pub mod WorldLemmas
