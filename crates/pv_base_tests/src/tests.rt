@@ -1,21 +1,10 @@
-// Worked values, beside what the clauses say of all values; that calls which want memory have their answer where there
-// is some; and the texts for people, of which no clause speaks.
+// Worked values, beside what the clauses say of all values; and that calls which want memory have their answer where there is some.
 use pv_base::{
-    CaseError, Catalog, CatalogError, Failed, HELD_NAMES, ItemId, Literal, MAX_ITEMS, MAX_JOURNAL,
-    MIN_JOURNAL, NameError, NoMemory, READ_NAMES, SiteId, TxnId, is_name, meets, print_txn,
-    push_number, push_txn,
+    Catalog, CatalogError, HELD_NAMES, ItemId, MAX_JOURNAL, NoMemory, READ_NAMES, SiteId, TxnId,
+    is_name, print_txn, push_number, push_txn,
 };
 use std::process::Abort;
 use std::test::Fail;
-
-// Refusals of a catalog, with their texts.
-const TEXTS: &[(CatalogError, &str)] = &[
-    (CatalogError::BadName, "not a name"),
-    (CatalogError::NameTaken(ItemId(7)), "the name is taken"),
-    (CatalogError::NoSite, "no such site"),
-    (CatalogError::TooMany, "too many items"),
-    (CatalogError::NoMemory, "no memory"),
-];
 
 // Additions to a catalog of two sites that has the item a, with their refusals.
 const REFUSED: &[(&str, u8, CatalogError)] = &[
@@ -73,40 +62,6 @@ fn what_is_printed_is_put_after_what_the_buffer_holds(rt: HostRuntime) -> Result
 }
 
 #[test]
-fn each_refusal_has_its_text(rt: HostRuntime) -> Result<(), Fail> {
-    for (error, text) in TEXTS {
-        let printed = format!(in rt.alloc(); "{error}")?;
-        assert_eq!(rt; printed.as_str(), *text);
-    }
-    let printed = format!(in rt.alloc(); "{NoMemory}, {Failed}")?;
-    assert_eq!(rt; printed.as_str(), "no memory, failed");
-    Ok(())
-}
-
-#[test]
-fn what_is_wrong_with_cases_is_printed(rt: HostRuntime) -> Result<(), Fail> {
-    let printed = format!(in rt.alloc();
-        "{}; {}; {}; {}; {}",
-        CaseError::TooManyOutcomes(13),
-        CaseError::NotDisjoint(0, 1),
-        CaseError::NotComplete(Vec::new(rt.alloc())),
-        CaseError::NotReduced(2),
-        CaseError::NoMemory
-    )?;
-    assert_eq!(rt;
-        printed.as_str(),
-        "the cases name 13 outcomes; cases 0 and 1 overlap; an assignment meets no case; case 2 isn't canonical; no memory"
-    );
-    let printed = format!(in rt.alloc();
-        "{}; {}",
-        NameError::TooManyOutcomes(13),
-        NameError::NoMemory
-    )?;
-    assert_eq!(rt; printed.as_str(), "the value names 13 outcomes; no memory");
-    Ok(())
-}
-
-#[test]
 fn names_have_1_to_16_bytes(rt: HostRuntime) {
     assert!(rt; is_name(b"a_9"));
     assert!(rt; is_name(b"abcdefghijklmnop"));
@@ -132,19 +87,6 @@ fn each_refusal_comes_in_its_order(rt: HostRuntime) -> Result<(), CatalogError> 
 }
 
 #[test]
-fn a_full_catalog_refuses_one_more(rt: HostRuntime) -> Result<(), Fail> {
-    let mut catalog = Catalog::new(rt.alloc(), 1, MIN_JOURNAL);
-    for number in 0..MAX_ITEMS {
-        let name = format!(in rt.alloc(); "i{number}")?;
-        catalog.add(name.as_bytes(), SiteId(0), -1)?;
-    }
-    assert!(rt; catalog.add(b"one_more", SiteId(0), 0) == Err(CatalogError::TooMany));
-    assert!(rt; catalog.len() == 1024);
-    assert_declares(&rt, &catalog, 1023, b"i1023", 0, -1);
-    Ok(())
-}
-
-#[test]
 fn a_copy_is_equal(rt: HostRuntime) -> Result<(), Fail> {
     let mut catalog = Catalog::new(rt.alloc(), 3, 4096);
     catalog.add(b"left", SiteId(2), i64::MIN)?;
@@ -156,33 +98,6 @@ fn a_copy_is_equal(rt: HostRuntime) -> Result<(), Fail> {
     assert_declares(&rt, &copy, 0, b"left", 2, i64::MIN);
     assert_declares(&rt, &copy, 1, b"right", 1, i64::MAX);
     Ok(())
-}
-
-#[test]
-fn a_condition_is_met_where_each_literal_is(rt: HostRuntime) {
-    let first = TxnId {
-        site: SiteId(0),
-        epoch: 1,
-        number: 0,
-    };
-    let second = TxnId {
-        site: SiteId(1),
-        epoch: 1,
-        number: 0,
-    };
-    let first_commits = Literal {
-        txn: first,
-        commits: true,
-    };
-    let second_aborts = Literal {
-        txn: second,
-        commits: false,
-    };
-    assert!(rt; meets(&[], &[first]));
-    assert!(rt; meets(&[first_commits, second_aborts], &[first]));
-    assert!(rt; meets(&[second_aborts], &[]));
-    assert!(rt; !meets(&[first_commits, second_aborts], &[second, first]));
-    assert!(rt; !meets(&[first_commits, second_aborts], &[]));
 }
 
 #[test]

@@ -10,6 +10,4 @@ mod rows;
 #[cfg(test)]
 mod stage;
 #[cfg(test)]
-mod stray_tests;
-#[cfg(test)]
 mod visit_tests;

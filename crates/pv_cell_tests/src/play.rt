@@ -7,18 +7,14 @@ use crate::rings::{ask, is_heard, is_sent, send};
 use crate::rows::rows_of;
 use crate::stage::Stage;
 use pv_cell::Visit;
-use pv_disk::AppendFail;
-use pv_post::FaultPlan;
 use std::alloc::Global;
 use std::test::Fail;
 
 /// What happens to the box, or is seen of it.
 #[derive(Clone, Copy)]
 pub(crate) enum Act {
-    /// The client asks, in its request of this number, for what the first script asks for, with the plan of what the second one asks for.
-    Asks(u32, &'static [u8], &'static [u8]),
-    /// A message comes from the site, sent at this stamp and place.
-    Comes(u64, u32, &'static [u8]),
+    /// The client asks, in its request of this number, for what the script asks for.
+    Asks(u32, &'static [u8]),
     /// So many visits answer this.
     Visits(u32, Visit),
     /// A tick answers this.
@@ -33,13 +29,9 @@ pub(crate) enum Act {
     Silent,
 }
 
-/// What a box is made with, what happens to it then, and what its history is afterwards.
+/// What happens to a new box, and what its history is afterwards.
 #[derive(Clone, Copy)]
 pub(crate) struct Play {
-    /// How what comes to the box fails.
-    pub(crate) plan: FaultPlan,
-    /// Which appends to the log fail.
-    pub(crate) fails: &'static [AppendFail],
     /// What happens.
     pub(crate) acts: &'static [Act],
     /// The history, a line for each entry.
@@ -64,12 +56,8 @@ fn rings(alloc: Global, stage: &mut Stage, act: Act) -> Result<bool, Fail>
     ensures { stage.new.cell ≡ stage.old.cell }
 {
     match act {
-        Act::Asks(number, script, planned) => {
-            ask(alloc, &mut stage.asks, number, script, planned)?;
-            Ok(true)
-        }
-        Act::Comes(stamp, place, message) => {
-            send(alloc, &mut stage.post, stamp, place, message)?;
+        Act::Asks(number, script) => {
+            ask(alloc, &mut stage.asks, number, script)?;
             Ok(true)
         }
         Act::Loses(stamp, place, message) => { Ok(is_sent(&mut stage.sent, stamp, place, message)) }
@@ -124,7 +112,7 @@ fn performed(alloc: Global, stage: &mut Stage, told: &Play) -> Result<(), Fail>
 
 /// Plays what is told.
 pub(crate) fn perform(alloc: Global, told: &Play) -> Result<(), Fail> {
-    let mut stage = Stage::new(alloc, told.plan, told.fails)?;
+    let mut stage = Stage::new(alloc)?;
     let ended = performed(alloc, &mut stage, told);
     stage.close();
     ended

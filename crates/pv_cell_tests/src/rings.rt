@@ -35,29 +35,17 @@ fn is_parcel(parcel: &Parcel, stamp: u64, place: u32, message: &[u8]) -> bool {
     parcel.stamp == stamp && parcel.place == place && parcel.bytes.as_slice() == message
 }
 
-/// The client asks, in its request of this number, for what this script asks for, with the plan of what the other one asks for.
+/// The client asks, in its request of this number, for what this script asks for.
 pub(crate) fn ask(
     alloc: Global,
     out: &mut Out<Request>,
     number: u32,
     script: &[u8],
-    planned: &[u8],
 ) -> Result<(), Fail> {
-    let asked = request_in(alloc, script)?;
-    let other = request_in(alloc, planned)?;
-    out.post(with_plan(number, asked, other));
+    let mut asked = request_in(alloc, script)?;
+    asked.number = number;
+    out.post(asked);
     Ok(())
-}
-
-// the one request with this number and the plan of the other
-fn with_plan(number: u32, asked: Request, other: Request) -> Request {
-    Request {
-        number,
-        query: asked.query,
-        text: asked.text,
-        program: asked.program,
-        plan: other.plan,
-    }
 }
 
 // the last request of the script's last client

@@ -8,8 +8,7 @@ ghost use Rattle.pv_site.specs.Steps.{IsReady};
 
 use pv_base::{Catalog, CatalogError, MAX_JOURNAL, NoMemory, SiteId};
 use pv_cell::{SiteBox, Visit, new_sites_fit_boxes};
-use pv_disk::{AppendFail, ListLog};
-use pv_history::Entry;
+use pv_disk::ListLog;
 use pv_mail::{Answer, Ends, Parcel};
 use pv_post::{FaultPlan, In, Out, pair};
 use pv_script::Request;
@@ -17,10 +16,10 @@ use pv_site::{Site, setup_is_in_range};
 use std::alloc::Global;
 use std::test::Fail;
 
-pub(crate) const HERE: SiteId = SiteId(0);
+const HERE: SiteId = SiteId(0);
 
-/// A plan by which no message fails.
-pub(crate) const NONE: FaultPlan = FaultPlan {
+// A plan by which no message fails.
+const NONE: FaultPlan = FaultPlan {
     drop_each: 0,
     double_each: 0,
 };
@@ -35,8 +34,8 @@ fn catalog(alloc: Global) -> Result<Catalog, CatalogError>
     Ok(catalog)
 }
 
-// the site, just opened on a log that fails at these appends
-fn opened(alloc: Global, catalog: &Catalog, fails: &[AppendFail]) -> Result<Site<ListLog>, Fail>
+// the site, just opened on a log
+fn opened(alloc: Global, catalog: &Catalog) -> Result<Site<ListLog>, Fail>
     requires journal { catalog.now.journal ≡ MAX_JOURNAL }
     requires site { 0 < catalog.now.sites }
     ensures ready { IfOk result (IsReady list_model) }
@@ -45,7 +44,7 @@ fn opened(alloc: Global, catalog: &Catalog, fails: &[AppendFail]) -> Result<Site
     ensures catalog { IfOk result (λ site. site.catalog ≡ catalog.now) }
 {
     new_sites_fit_boxes::<ListLog>();
-    let log = ListLog::new(alloc, MAX_JOURNAL, Vec::from_slice(alloc, fails)?);
+    let log = ListLog::new(alloc, MAX_JOURNAL, Vec::new(alloc));
     match Site::open(alloc, log, HERE, catalog) {
         Ok(site) => fresh(site),
         Err(_) => Err("the site isn't opened".into()),
@@ -87,7 +86,7 @@ fn ends_of(
 }
 
 // the box of the site with these rings
-fn boxed(alloc: Global, ends: Ends, fails: &[AppendFail]) -> Result<SiteBox<ListLog>, Fail>
+fn boxed(alloc: Global, ends: Ends) -> Result<SiteBox<ListLog>, Fail>
     requires sites { (length ends.sites_in.items ≡ 1) × (length ends.sites_out.items ≡ 1) }
     requires clients { (length ends.clients_in.items ≡ 1) × (length ends.clients_out.items ≡ 1) }
     requires fresh { AreFresh ends }
@@ -95,7 +94,7 @@ fn boxed(alloc: Global, ends: Ends, fails: &[AppendFail]) -> Result<SiteBox<List
 {
     let catalog = catalog(alloc)?;
     setup_is_in_range(&catalog);
-    let site = opened(alloc, &catalog, fails)?;
+    let site = opened(alloc, &catalog)?;
     Ok(SiteBox::new(alloc, HERE, site, ends)?)
 }
 
@@ -114,17 +113,17 @@ pub(crate) struct Stage {
 }
 
 impl Stage {
-    /// The box on a log that fails at these appends, where what comes to the box fails by this plan.
-    pub(crate) fn new(alloc: Global, plan: FaultPlan, fails: &[AppendFail]) -> Result<Stage, Fail>
+    /// The box, just made.
+    pub(crate) fn new(alloc: Global) -> Result<Stage, Fail>
         ensures { IfOk result (λ stage. IsBox list_model stage.cell) }
     {
-        let (post, come) = pair(alloc, plan)?;
+        let (post, come) = pair(alloc, NONE)?;
         let (posts, sent) = pair(alloc, NONE)?;
-        let (asks, asked) = pair(alloc, plan)?;
+        let (asks, asked) = pair(alloc, NONE)?;
         let (tells, hears) = pair(alloc, NONE)?;
         let ends = ends_of(alloc, come, posts, asked, tells)?;
         Ok(Stage {
-            cell: boxed(alloc, ends, fails)?,
+            cell: boxed(alloc, ends)?,
             post,
             sent,
             asks,
@@ -132,14 +131,9 @@ impl Stage {
         })
     }
 
-    /// The site and the history.
-    pub(crate) fn into_parts(self) -> (Site<ListLog>, Vec<Entry>) {
-        self.cell.into_parts()
-    }
-
     /// Ends the play: the box, its site and its log are given up one after another.
     pub(crate) fn close(self) {
-        let (site, _history) = self.into_parts();
+        let (site, _history) = self.cell.into_parts();
         let _log = site.close();
     }
 

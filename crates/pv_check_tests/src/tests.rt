@@ -6,15 +6,6 @@ use std::alloc::Global;
 use std::process::Abort;
 use std::test::Fail;
 
-// Refusals, with their texts.
-const TEXTS: &[(CheckError, &str)] = &[
-    (CheckError::NoItem, "no item"),
-    (CheckError::TooManyItems(17), "too many items: 17"),
-    (CheckError::Assigns, "a query assigns"),
-    (CheckError::NoReturn, "a query has no return"),
-    (CheckError::NoMemory, "no memory"),
-];
-
 // Programs that want the first item for themselves and the second with others.
 const OF_TWO: &[&str] = &["a := b", "if 1 { if b { return 1 } } else { a := 1 }"];
 
@@ -118,14 +109,5 @@ fn a_plan_has_each_item_at_its_site(rt: HostRuntime) -> Result<(), Fail> {
 fn sixteen_items_have_a_plan(rt: HostRuntime) -> Result<(), Fail> {
     let plan = plan(&rt, OF_SIXTEEN, false)?;
     assert_wants(&rt, &plan, 3, SIXTEEN_WANTS)?;
-    Ok(())
-}
-
-#[test]
-fn each_refusal_has_its_text(rt: HostRuntime) -> Result<(), Fail> {
-    for (error, text) in TEXTS {
-        let printed = format!(in rt.alloc(); "{error}")?;
-        assert_eq!(rt; printed.as_str(), *text);
-    }
     Ok(())
 }

@@ -1,7 +1,6 @@
 // What checkpoints and a rewriting make of the bytes; and many checkpoints, to be timed.
 ghost use Rattle.std.specs.Prelude.{◌≡◌, ◌<◌, ◌≤◌, ◌^◌, length, vec_len, IfOk};
 
-use crate::tests::PACKED_ONCE;
 use pv_base::buffer;
 use pv_ckpt::*;
 use pv_disk::{Disk, Log, LogError, LookError, MemDisk};
@@ -82,6 +81,20 @@ const APPENDED: [u8; 116] = *b"PVCKPT01\
     \x01\0\0\0\x05\x01\0\0\0\x01\
     \x01\0\0\0\x1a\x02\0\0\0\0\x01\0\0\0\0\x01\0\0\0\0\0\x01\0\0\0\0\0\0\0\0\x65\
     \x01\0\0\0\x0b\x03\0\0\0\0\x01\0\0\0\0\x01\
+    \0";
+
+// Three records after a first checkpoint: root 1 has the number 2 and a block of 54 bytes at 116. Both roots are open, the records stand at 58, and the gate behind the block
+// at 170.
+const PACKED_ONCE: [u8; 171] = *b"PVCKPT01\
+    \x01\0\0\0\0\0\0\0\x01\0\0\0\0\0\0\0\x3a\0\0\0\0\0\0\0\0\
+    \x01\0\0\0\0\0\0\0\x02\0\0\0\0\0\0\0\x74\0\0\0\0\0\0\0\x36\
+    \x01\0\0\0\x05\x01\0\0\0\x01\
+    \x01\0\0\0\x1a\x02\0\0\0\0\x01\0\0\0\0\x01\0\0\0\0\0\x01\0\0\0\0\0\0\0\0\x65\
+    \x01\0\0\0\x0b\x03\0\0\0\0\x01\0\0\0\0\x01\
+    \0\
+    \0\0\0\x05\x01\0\0\0\x01\
+    \0\0\0\x1a\x02\0\0\0\0\x01\0\0\0\0\x01\0\0\0\0\0\x01\0\0\0\0\0\0\0\0\x65\
+    \0\0\0\x0b\x03\0\0\0\0\x01\0\0\0\0\x01\
     \0";
 
 // After a second checkpoint: root 0 has the number 3 and its block at 58, which leaves the last three bytes of the first area.
@@ -177,7 +190,7 @@ fn a_rewriting_puts_the_given_contents_into_its_block(rt: HostRuntime) -> Result
         CONTENTS[0].to_vec(alloc)?,
         CONTENTS[2].to_vec(alloc)?,
     )?;
-    assert_eq!(rt; log.length(), 35);
+    assert!(rt; log.length() == 35);
     assert!(rt; bytes_of(alloc, &mut log.close())?.as_slice() == REWRITTEN.as_slice());
     Ok(())
 }
@@ -205,24 +218,24 @@ fn add_all<L: Log>(log: &mut L, appends: u32) -> Result<(), LogError>
 
 #[test]
 fn appends_10_000(rt: HostRuntime) -> Result<(), Fail> {
-    assert_eq!(rt; length_after(rt.alloc(), 10_000, 0)?, 250_009);
+    assert!(rt; length_after(rt.alloc(), 10_000, 0)? == 250_009);
     Ok(())
 }
 
 #[test]
 fn checkpoints_of_10_000(rt: HostRuntime) -> Result<(), Fail> {
-    assert_eq!(rt; length_after(rt.alloc(), 10_000, 10)?, 250_009);
+    assert!(rt; length_after(rt.alloc(), 10_000, 10)? == 250_009);
     Ok(())
 }
 
 #[test]
 fn appends_100_000(rt: HostRuntime) -> Result<(), Fail> {
-    assert_eq!(rt; length_after(rt.alloc(), 100_000, 0)?, 2_500_009);
+    assert!(rt; length_after(rt.alloc(), 100_000, 0)? == 2_500_009);
     Ok(())
 }
 
 #[test]
 fn checkpoints_of_100_000(rt: HostRuntime) -> Result<(), Fail> {
-    assert_eq!(rt; length_after(rt.alloc(), 100_000, 10)?, 2_500_009);
+    assert!(rt; length_after(rt.alloc(), 100_000, 10)? == 2_500_009);
     Ok(())
 }

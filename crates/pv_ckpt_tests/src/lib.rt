@@ -3,5 +3,3 @@
 
 #[cfg(test)]
 mod crash_tests;
-#[cfg(test)]
-mod tests;

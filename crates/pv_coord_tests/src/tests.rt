@@ -1,7 +1,7 @@
 // Worked coordinators of the first site. The item a is there, and b at the second site. Each call that wants memory has its answer where
 // there is some.
 use pv_ast::{Expr, Program, Stmt};
-use pv_base::{GrantId, ItemId, NEVER_GIVEN, NoMemory, Reply, SiteId, TxnId, Want};
+use pv_base::{GrantId, ItemId, NoMemory, Reply, SiteId, TxnId, Want};
 use pv_check::{Part, Plan};
 use pv_coord::*;
 use pv_tree::Poly;
@@ -132,27 +132,5 @@ fn an_entry_without_an_answer_expires_at_the_third_tick(rt: HostRuntime) -> Resu
     assert_eq!(rt; expiries.as_slice(), expected.as_slice());
     coord.apply_tick();
     assert!(rt; !coord.works(begun));
-    Ok(())
-}
-
-#[test]
-fn the_last_number_is_never_given(rt: HostRuntime) -> Result<(), Fail> {
-    let alloc = rt.alloc();
-    let mut coord = Coord::new(alloc, HERE, 1, NEVER_GIVEN);
-    let refused = begin(alloc, &mut coord, &[(HERE, A)]).err();
-    assert_eq!(rt; refused, Some(CoordError::Spent));
-    Ok(())
-}
-
-#[test]
-fn each_refusal_has_its_text(rt: HostRuntime) -> Result<(), Fail> {
-    let texts = [
-        (CoordError::Spent, "no transaction number is left"),
-        (CoordError::NoMemory, "no memory"),
-    ];
-    for (error, text) in texts {
-        let printed = format!(in rt.alloc(); "{error}")?;
-        assert_eq!(rt; printed.as_str(), text);
-    }
     Ok(())
 }

@@ -412,21 +412,3 @@ fn each_text_has_its_program_or_its_fault(rt: HostRuntime) -> Result<(), Fail> {
 fn each_close_text_has_its_program_or_its_fault(rt: HostRuntime) -> Result<(), Fail> {
     assert_reads(&rt, rt.alloc(), CLOSE)
 }
-
-// Refusals, with their texts.
-const TEXTS: &[(ParseError, &str)] = &[
-    (ParseError::TooLarge(1001), "too large: 1001 bytes"),
-    (ParseError::Malformed(7), "malformed at column 7"),
-    (ParseError::UnknownName(6), "unknown name at column 6"),
-    (ParseError::TooDeep(39), "too deep at column 39"),
-    (ParseError::NoMemory, "no memory"),
-];
-
-#[test]
-fn each_refusal_has_its_text(rt: HostRuntime) -> Result<(), Fail> {
-    for (error, text) in TEXTS {
-        let printed = format!(in rt.alloc(); "{error}")?;
-        assert_eq!(rt; printed.as_str(), *text);
-    }
-    Ok(())
-}

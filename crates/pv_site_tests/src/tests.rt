@@ -1,12 +1,9 @@
-// The catalog of the tests, contents written in hexadecimal, and the texts of a step's errors. The item a is declared as 7 at the first of two
-// sites, and b as 8 at the other one.
+// The catalog of the tests, and contents written in hexadecimal. The item a is declared as 7 at the first of two sites, and b as 8 at the other one.
 ghost use Rattle.std.specs.Prelude.{◌≡◌, ◌≤◌, length, IfOk};
 ghost use Rattle.pv_base.specs.declared.limits.TheConstants.{MAX_JOURNAL, MIN_JOURNAL};
 
 use pv_base::{Catalog, CatalogError, SiteId};
-use pv_site::StepError;
 use std::alloc::{AllocFailed, Global};
-use std::test::Fail;
 
 pub(crate) const HERE: SiteId = SiteId(0);
 
@@ -50,18 +47,4 @@ pub(crate) fn bytes_of(alloc: Global, text: &str) -> Result<Vec<u8>, AllocFailed
         }
     }
     Ok(bytes)
-}
-
-#[test]
-fn each_error_of_a_step_has_its_text(rt: HostRuntime) -> Result<(), Fail> {
-    let texts = [
-        (StepError::Fault, "the log failed"),
-        (StepError::Down, "the site is down"),
-        (StepError::NoMemory, "no memory"),
-    ];
-    for (error, text) in texts {
-        let printed = format!(in rt.alloc(); "{error}")?;
-        assert_eq!(rt; printed.as_str(), text);
-    }
-    Ok(())
 }
