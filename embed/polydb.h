@@ -492,7 +492,7 @@ typedef struct {
     uint64_t asked;  /* as many as there are once all is written that the site has asked for */
     uint64_t limit;  /* as many as there may be: of the configuration */
     uint32_t epoch;  /* the epoch in which the site was opened; 0 while something is to be written, since a crash may undo it */
-    uint32_t records; /* records that are in the file, by what the host has said; 4294967295 if there are more, for which a journal of POLYDB_MAX_JOURNAL has no room */
+    uint32_t records; /* since 0.3.0: records that are in the file, by what the host has said; 4294967295 if there are more, for which a journal of POLYDB_MAX_JOURNAL has no room */
 } polydb_info;
 
 /*
