@@ -17,12 +17,27 @@ const A: ItemId = ItemId(0);
 
 const B: ItemId = ItemId(1);
 
-// A transaction of the store's site.
+// A transaction of the store's site, and one of another.
 const HERE: TxnId = TxnId {
     site: SiteId(0),
     epoch: 1,
     number: 0,
 };
+
+const THERE: TxnId = TxnId {
+    site: SiteId(1),
+    epoch: 1,
+    number: 0,
+};
+
+// the transaction of the store's site that has this number
+fn txn(number: u32) -> TxnId {
+    TxnId {
+        site: SiteId(0),
+        epoch: 1,
+        number,
+    }
+}
 
 // the catalog of a and b
 fn catalog(alloc: Global) -> Result<Catalog, CatalogError>
@@ -43,11 +58,16 @@ fn sure(alloc: Global, item: ItemId, value: i64) -> Result<Vec<Read>, NoMemory> 
     Ok(reads)
 }
 
-// what the records of one promise are: that a is 5
-fn promise(alloc: Global) -> Result<Past, NoMemory> {
+// the records of so many transactions, from the first one, that assign a the values from 5
+fn promises(alloc: Global, count: u32) -> Result<Past, NoMemory> {
     let mut records = Vec::new(alloc);
-    let writes = sure(alloc, A, 5)?;
-    records.push(Record::Prepared { txn: HERE, writes })?;
+    for number in 0..count {
+        let writes = sure(alloc, A, 5 + i64::from(number))?;
+        records.push(Record::Prepared {
+            txn: txn(number),
+            writes,
+        })?;
+    }
     Ok(Past { epoch: 1, records })
 }
 
@@ -61,22 +81,39 @@ fn empty(alloc: Global) -> Result<Store, Fail>
     Ok(Store::new(alloc, &catalog, SiteId(0))?)
 }
 
+// the store of so many of these records
+fn promising(alloc: Global, count: u32) -> Result<Store, Fail>
+    ensures a { IfOk result (λ store. IsTrue (is_home store.catalog store.site 0)) }
+    ensures b { IfOk result (λ store. IsTrue (is_home store.catalog store.site 1)) }
+{
+    let mut store = empty(alloc)?;
+    let past = promises(alloc, count)?;
+    store.load(&past)?;
+    Ok(store)
+}
+
 // Plans and applies that the transaction is prepared, which assigns the item this value.
-fn prepare(alloc: Global, store: &mut Store, item: ItemId, value: i64) -> Result<(), StoreError>
+fn prepare(
+    alloc: Global,
+    store: &mut Store,
+    txn: TxnId,
+    item: ItemId,
+    value: i64,
+) -> Result<(), StoreError>
     requires { IsTrue (is_home store.old.catalog store.old.site item.0) }
 {
     let value = Poly::sure(alloc, value)?;
-    let change = store.plan_prepare(HERE, &[Read { item, value }])?;
+    let change = store.plan_prepare(txn, &[Read { item, value }])?;
     store.apply(change);
     Ok(())
 }
 
 // Plans and applies that the transaction's outcome is known.
-fn settle(store: &mut Store, commits: bool) -> Result<(), NoMemory>
+fn settle(store: &mut Store, txn: TxnId, commits: bool) -> Result<(), NoMemory>
     ensures catalog { store.new.catalog ≡ store.old.catalog }
     ensures site { store.new.site ≡ store.old.site }
 {
-    let change = store.plan_settle(HERE, commits)?;
+    let change = store.plan_settle(txn, commits)?;
     store.apply(change);
     Ok(())
 }
@@ -112,18 +149,35 @@ fn is_either(cases: &[Case<i64>], old: i64, new: i64) -> bool {
 
 #[test]
 fn a_promise_is_shown_with_both_outcomes(rt: HostRuntime) -> Result<(), Fail> {
-    let mut store = empty(rt.alloc())?;
-    let past = promise(rt.alloc())?;
-    store.load(&past)?;
+    let store = promising(rt.alloc(), 1)?;
     assert!(rt; is_either(store.show(A).cases(), 1, 5));
     assert!(rt; is_sure(store.show(B).cases(), 2));
     let mentioned = store.mentioned()?;
-    assert!(rt; mentioned.as_slice() == [HERE].as_slice());
-    assert!(rt; store.touched(HERE) == [A].as_slice());
+    assert_eq!(rt; mentioned.as_slice(), [HERE].as_slice());
+    assert_eq!(rt; store.touched(HERE), [A].as_slice());
     Ok(())
 }
 
-// 60 where the transaction commits, and else 50
+#[test]
+fn a_second_promise_is_mentioned_too(rt: HostRuntime) -> Result<(), Fail> {
+    let alloc = rt.alloc();
+    let mut store = promising(alloc, 1)?;
+    prepare(alloc, &mut store, THERE, B, 3)?;
+    let mentioned = store.mentioned()?;
+    assert_eq!(rt; mentioned.as_slice(), [HERE, THERE].as_slice());
+    Ok(())
+}
+
+#[test]
+fn records_that_give_a_thirteenth_name_are_refused(rt: HostRuntime) -> Result<(), Fail> {
+    let alloc = rt.alloc();
+    let mut store = empty(alloc)?;
+    let past = promises(alloc, 13)?;
+    assert_eq!(rt; store.load(&past), Err(StoreError::TooManyOutcomes(13)));
+    Ok(())
+}
+
+// 60 where the first transaction commits, and else 50
 fn sixty_or_fifty(alloc: Global) -> Result<Poly<i64>, NameError> {
     let fifty = Poly::sure(alloc, 50)?;
     let sixty = Poly::sure(alloc, 60)?;
@@ -132,12 +186,29 @@ fn sixty_or_fifty(alloc: Global) -> Result<Poly<i64>, NameError> {
 
 #[test]
 fn a_commit_leaves_the_new_value(rt: HostRuntime) -> Result<(), Fail> {
-    let mut store = empty(rt.alloc())?;
-    let value = sixty_or_fifty(rt.alloc())?;
-    prepare(rt.alloc(), &mut store, A, 5)?;
-    settle(&mut store, true)?;
+    let mut store = promising(rt.alloc(), 1)?;
+    settle(&mut store, HERE, true)?;
     assert!(rt; is_sure(store.show(A).cases(), 5));
+    assert!(rt; store.mentioned()?.is_empty());
+    assert!(rt; store.touched(HERE).is_empty());
+    let value = sixty_or_fifty(rt.alloc())?;
     let settled = store.settled(rt.alloc(), &value)?;
     assert!(rt; is_sure(settled.cases(), 60));
+    Ok(())
+}
+
+#[test]
+fn each_refusal_has_its_text(rt: HostRuntime) -> Result<(), Fail> {
+    let texts = [
+        (
+            StoreError::TooManyOutcomes(13),
+            "a value would name 13 outcomes",
+        ),
+        (StoreError::NoMemory, "no memory"),
+    ];
+    for (error, text) in texts {
+        let printed = format!(in rt.alloc(); "{error}")?;
+        assert_eq!(rt; printed.as_str(), text);
+    }
     Ok(())
 }
